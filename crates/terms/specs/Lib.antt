@@ -1,0 +1,6 @@
+-- Terms and rules: the definitions that the contracts cite.
+pub mod Terms
+pub mod Limits
+pub mod Usable
+pub mod Nodes
+pub mod Represents

@@ -1,0 +1,2 @@
+-- Machine words: the definitions that the contracts cite.
+pub mod Words
