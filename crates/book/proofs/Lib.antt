@@ -1,0 +1,5 @@
+pub mod Numbers
+pub mod Splits
+pub mod Tokens
+pub mod Unique
+pub mod Books

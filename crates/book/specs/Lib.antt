@@ -1,0 +1,3 @@
+-- The text of a rule book: the definitions that the contracts cite.
+pub mod Text
+pub mod Tokens
