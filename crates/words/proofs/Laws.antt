@@ -8,6 +8,7 @@ use lib.Arith.{lt-one}
 use lib.Bits.{bitAnd, bitOr, bitXor, and-step, or-step, xor-step, differ}
 use lib.Dec.{eqb, ltb, lit≤, lit<}
 use lib.Pow.{pow-pos, pow-add, pow-lt, mod-mod-pow, ones-lt, ones-sub-lt}
+use Rattle.std.proofs.shelf.Bits.{one-shl}
 use Rattle.std.proofs.shelf.Tests.{eq-eqb}
 use Rattle.words.specs.declared.UnaryOp.{UnaryOp}
 use Rattle.words.specs.declared.UnaryOp.the-variants.{Not, Neg}
@@ -36,21 +37,25 @@ cut-law w n h =
     subst (λ k. n % 2 ^ k % 2 ^ w ≡ n % 2 ^ w) e (mod-mod-pow n (64 - w) w)
 
 -- a difference that wrapped at 64 bits, cut to a width
-pub cut-difference : (w x y : ℕ) → w ≤ 64 → y < 2 ^ w → (x + 2 ^ 64 - y) % 2 ^ 64 % 2 ^ w ≡ (x + 2 ^ w - y) % 2 ^ w
+pub cut-difference : (w x y : ℕ) → w ≤ 64 → y < 2 ^ w → (x + (2 ^ 64 - y)) % 2 ^ 64 % 2 ^ w ≡ (x + 2 ^ w - y) % 2 ^ w
 cut-difference w x y h l =
+    let q : ℕ = 2 ^ (64 - w) in
     let e : (64 - w) + w ≡ 64 = omega arith in
-    let p : 2 ^ 64 ≡ 2 ^ (64 - w) * 2 ^ w = subst (λ k. 2 ^ k ≡ 2 ^ (64 - w) * 2 ^ w) e (pow-add 2 (64 - w) w) in
-    let q : suc (2 ^ (64 - w) - 1) ≡ 2 ^ (64 - w) = omega (arith, pow-pos (64 - w)) in
-    let m = suc-mul (2 ^ (64 - w) - 1) (2 ^ w) in
-    let t : x + 2 ^ 64 - y ≡ (2 ^ (64 - w) - 1) * 2 ^ w + (x + 2 ^ w - y) = omega (arith, p, m, ap (λ k. k * 2 ^ w) q) in
-    cut-law w (x + 2 ^ 64 - y) h ∙ (ap (λ k. k % 2 ^ w) t ∙ mul-add-mod-self-right (2 ^ (64 - w) - 1) (2 ^ w) (x + 2 ^ w - y))
+    let p : 2 ^ 64 ≡ q * 2 ^ w = subst (λ k. 2 ^ k ≡ 2 ^ (64 - w) * 2 ^ w) e (pow-add 2 (64 - w) w) in
+    let s : suc (q - 1) ≡ q = omega (arith, pow-pos (64 - w)) in
+    let t : x + (2 ^ 64 - y) ≡ (q - 1) * 2 ^ w + (x + 2 ^ w - y) = omega (arith, p, suc-mul (q - 1) (2 ^ w), ap (λ k. k * 2 ^ w) s) in
+    cut-law w (x + (2 ^ 64 - y)) h ∙ (ap (λ k. k % 2 ^ w) t ∙ mul-add-mod-self-right (q - 1) (2 ^ w) (x + 2 ^ w - y))
+
+-- half the range of a width of k bits, as a word of 64 bits
+pub half-range : (k w : ℕ) → k ≡ w → 0 < w → w ≤ 64 → 1 * 2 ^ (k - 1) % 2 ^ 64 ≡ 2 ^ (w - 1)
+half-range k w e p h = one-shl (k - 1) 64 (omega arith) ∙ ap (λ j. 2 ^ (j - 1)) e
 
 -- what holds either way of a choice holds of it
 pick-both : (P : ℕ → Type 0) (b : Bool) (x y : ℕ) → P x → P y → P (pick b x y)
 pick-both P true x y p q = p
 pick-both P false x y p q = q
 
-pick-true : {A : Type 0} (b : Bool) (x y : A) → b ≡ true → pick b x y ≡ x
+pub pick-true : {A : Type 0} (b : Bool) (x y : A) → b ≡ true → pick b x y ≡ x
 pick-true b x y e = rw e refl
 
 less-pick : (b : Bool) (n q : ℕ) → n - pick b q 0 ≡ pick b (n - q) n

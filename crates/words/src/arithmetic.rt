@@ -20,10 +20,9 @@ pub fn wide_product(x: u64, y: u64) -> Product
     ensures { λ r. ⌜ r .high * 2 ^ 64 + r .low ≡ x * y ⌝ }
 {
     let whole = u128::from(x) * u128::from(y);
-    Product {
-        high: (whole >> 64) as u64,
-        low: x.wrapping_mul(y),
-    }
+    let high = (whole >> 64) as u64;
+    let low = x.wrapping_mul(y);
+    Product { high, low }
 }
 
 // Minus `x`, in two's complement.

@@ -6,7 +6,7 @@ ghost use Rattle.words.specs.declared.BinaryOp.the-variants.{And, Or, Xor};
 ghost use Rattle.words.specs.declared.UnaryOp.the-variants.{Not};
 use crate::Width;
 
-// Each bit of `x` turned over: none is borrowed from where all bits of the minuend are 1.
+// Each bit of `x` turned over, by a difference that borrows nothing, since the mask has every bit.
 pub(crate) fn bit_not(width: Width, x: u64) -> u64
     requires { ⌜ x < 2 ^ bits width ⌝ }
     ensures value { λ r. ⌜ r ≡ do1 (bits width) Not x ⌝ }

@@ -1,5 +1,5 @@
-// The shifts. The count is a word too, and may be the width or more: the machine's own shift is not
-// defined there, so each function tests the count first.
+// The shifts. The count is a word too, and may be the width or more, so each function tests it first:
+// a shift of a `u64` by 64 or more is not defined.
 ghost use Prim.Native.Nat.{_^_, _<_};
 ghost use mathlib.Core.Path.{_≡_};
 ghost use Rattle.words.specs.Words.{bits, do2};
