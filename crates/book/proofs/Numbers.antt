@@ -6,7 +6,8 @@ use mathlib.Core.List.{List, [], _∷_, _++_, append-nil, append-assoc}
 use Prim.Native.Nat.{ℕ, zero, suc, _+_, _-_, _*_, _/_, _%_, _^_, _<_, _≤_}
 use native.Mathlib.Nat.{pow-suc}
 use native.Mathlib.Omega.{arith}
-use lib.ListN.{length, getD}
+use lib.ListN.{length, getD, take, drop}
+use Rattle.std.proofs.shelf.Lists.{take-more, take-append-drop}
 use lib.Dec.{ltb}
 use Rattle.std.proofs.shelf.Tests.{cases-lt, lt-ltb, le-ltb, cases-eq}
 use Rattle.words.specs.Words.{pick}
@@ -181,3 +182,43 @@ decimal-value (c ∷ d ∷ cs) some all front lt =
     ∙ decimal-from (c - 48) (d ∷ cs) pos (all .2) lt′
     ∙ ap (λ ds. ds ++ (d ∷ cs)) (decimal-digit (c - 48) (omega arith))
     ∙ ap (λ x. x ∷ d ∷ cs) f
+
+-- ---- reading a word from its front
+
+digit-at : (w : List ℕ) (i : ℕ) → i < length w → Digits w → (48 ≤ getD w i 0) × (getD w i 0 ≤ 57)
+digit-at [] i lt all = absurd (omega arith)
+digit-at (c ∷ cs) zero lt all = (all .0, all .1)
+digit-at (c ∷ cs) (suc i) lt all = digit-at cs i (omega arith) (all .2)
+
+-- one character more
+pub value-more : (w : List ℕ) (i : ℕ) → i < length w → valueFrom 0 (take (i + 1) w) ≡ valueFrom 0 (take i w) * 10 + (getD w i 0 - 48)
+value-more w i lt = ap (valueFrom 0) (take-more w i 0 lt) ∙ valueFrom-append 0 (take i w) (getD w i 0 ∷ [])
+
+pub all-more : (w : List ℕ) (i : ℕ) → i < length w → Digits (take i w) → 48 ≤ getD w i 0 → getD w i 0 ≤ 57 → Digits (take (i + 1) w)
+all-more w i lt all lo hi = subst Digits (sym (take-more w i 0 lt)) (digits-append (take i w) (getD w i 0 ∷ []) all (lo, hi, tt))
+
+-- the front of a word writes no larger a number
+value-front : (w : List ℕ) (i : ℕ) → valueFrom 0 (take i w) ≤ valueFrom 0 w
+value-front w i =
+    let e : valueFrom 0 w ≡ valueFrom (valueFrom 0 (take i w)) (drop i w) = ap (valueFrom 0) (sym (take-append-drop i w)) ∙ valueFrom-append 0 (take i w) (drop i w) in
+    let h = valueFrom-least (valueFrom 0 (take i w)) (drop i w) in
+    omega arith
+
+-- words that are no numbers: an empty one, one with a 0 in front, and one that stops being a number below 2 ^ 64
+pub empty-no-number : (w : List ℕ) → length w ≡ 0 → (n : ℕ) → n < 2 ^ 64 → w ≡ decimal n → ⊥
+empty-no-number w h n lt e = let pos = decimal-nonempty n in let l = ap length e in omega arith
+
+pub zero-no-number : (w : List ℕ) → 1 < length w → getD w 0 0 ≡ 48 → (n : ℕ) → n < 2 ^ 64 → w ≡ decimal n → ⊥
+zero-no-number w long h n lt e =
+    elim (cases-eq n 0)
+    [ inl z ↦ let l : length w ≡ 1 = ap length (e ∙ ap decimal z ∙ decimal-zero) in omega arith
+    | inr nz ↦ decimal-head n (omega arith) (omega arith) (ap (λ v. getD v 0 0) (sym e) ∙ h) ]
+
+pub stops-no-number : (w : List ℕ) (i : ℕ) → i < length w → (48 ≤ getD w i 0 → getD w i 0 ≤ 57 → 2 ^ 64 ≤ valueFrom 0 (take i w) * 10 + (getD w i 0 - 48)) → (n : ℕ) → n < 2 ^ 64 → w ≡ decimal n → ⊥
+stops-no-number w i lt stop n small e =
+    let d = digit-at w i lt (subst Digits (sym e) (decimal-all n)) in
+    let over = stop (d .0) (d .1) in
+    let more = value-more w i lt in
+    let front = value-front w (i + 1) in
+    let v : valueFrom 0 w ≡ n = ap (valueFrom 0) e ∙ value-decimal n (omega arith) in
+    omega arith

@@ -47,6 +47,10 @@ operationNode (Unary o) parts = node.Unary o (getD parts 0 0)
 operationNode (Binary o) parts = node.Binary o (getD parts 0 0) (getD parts 1 0)
 operationNode Ite parts = node.Ite (getD parts 0 0) (getD parts 1 0) (getD parts 2 0)
 
+-- no operation has this name
+abbrev pub No-operation : List ℕ → Type 0
+No-operation w = (o : Operation) → w ≡ operationName o → ⊥
+
 -- a word of a book is written so; no word is the end of the text
 abbrev pub Writes : Token → List ℕ → Type 0
 Writes token.End w = ⊥
