@@ -21,11 +21,13 @@ use Rattle.book.proofs.Unique.{first-same, rest-same, never-empty, decimal-sam
 -- a width by its bits
 abbrev widthOf : ℕ → Width
 widthOf n = pick (eqb n 8) W8 (pick (eqb n 16) W16 (pick (eqb n 32) W32 W64))
+
 width-of : (v : Width) → widthOf (bits v) ≡ v
 width-of W8 = refl
 width-of W16 = refl
 width-of W32 = refl
 width-of W64 = refl
+
 pub width-same : (v u : Width) → bits v ≡ bits u → v ≡ u
 width-same v u e = sym (width-of v) ∙ ap widthOf e ∙ width-of u
 
@@ -40,6 +42,7 @@ pub record Limits (r : Rule) : Type 0 where
   pub few : length (r .needs) ≤ 4
   pub small : opsAll (terms r) ≤ 32
   pub ok : okTerms (bits (r .width)) (terms r) ≡ true
+
 pub limits : (r : Rule) → okRule r ≡ true → Limits r
 limits r h =
     let p = and-parts _ _ h in

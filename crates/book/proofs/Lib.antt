@@ -3,3 +3,5 @@ pub mod Splits
 pub mod Tokens
 pub mod Unique
 pub mod Books
+pub mod TermReads
+pub mod Places

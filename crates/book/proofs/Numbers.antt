@@ -28,6 +28,7 @@ pub digits-last : (d n : ℕ) (ds : List ℕ) → n < 10 → digits (suc d) n ds
 digits-last d n ds h =
     let e : n % 10 ≡ n = omega arith in
     rw (lt-ltb n 10 h, e)
+
 pub digits-more : (d n : ℕ) (ds : List ℕ) → 10 ≤ n → digits (suc d) n ds ≡ digits d (n / 10) ((48 + n % 10) ∷ ds)
 digits-more d n ds h = rw (le-ltb n 10 h)
 
@@ -38,9 +39,10 @@ tenth d n h = let e = pow-suc 10 d in omega arith
 pub digits-before : (d n : ℕ) (ds : List ℕ) → digits d n ds ≡ digits d n [] ++ ds
 digits-before zero n ds = refl
 digits-before (suc d) n ds =
-    elim (cases-lt n 10)
-    [ inl h ↦ rw (digits-last d n ds h, digits-last d n [] h)
-    | inr h ↦ rw (digits-more d n ds h, digits-more d n [] h, digits-before d (n / 10) ((48 + n % 10) ∷ ds), digits-before d (n / 10) ((48 + n % 10) ∷ [])) (sym (append-assoc (digits d (n / 10) []) _ ds)) ]
+    elim (cases-lt n 10) [
+      | inl h ↦ rw (digits-last d n ds h, digits-last d n [] h)
+      | inr h ↦ rw (digits-more d n ds h, digits-more d n [] h, digits-before d (n / 10) ((48 + n % 10) ∷ ds), digits-before d (n / 10) ((48 + n % 10) ∷ [])) (sym (append-assoc (digits d (n / 10) []) _ ds))
+    ]
 
 -- more room for digits than are needed changes nothing
 pub digits-room : (d n : ℕ) (ds : List ℕ) → n < 10 ^ suc d → digits (suc d) n ds ≡ digits (suc (suc d)) n ds
@@ -49,9 +51,10 @@ digits-room zero n ds h =
     let lt : n < 10 = omega arith in
     digits-last zero n ds lt ∙ sym (digits-last 1 n ds lt)
 digits-room (suc d) n ds h =
-    elim (cases-lt n 10)
-    [ inl lt ↦ digits-last (suc d) n ds lt ∙ sym (digits-last (suc (suc d)) n ds lt)
-    | inr ge ↦ digits-more (suc d) n ds ge ∙ digits-room d (n / 10) ((48 + n % 10) ∷ ds) (tenth (suc d) n h) ∙ sym (digits-more (suc (suc d)) n ds ge) ]
+    elim (cases-lt n 10) [
+      | inl lt ↦ digits-last (suc d) n ds lt ∙ sym (digits-last (suc (suc d)) n ds lt)
+      | inr ge ↦ digits-more (suc d) n ds ge ∙ digits-room d (n / 10) ((48 + n % 10) ∷ ds) (tenth (suc d) n h) ∙ sym (digits-more (suc (suc d)) n ds ge)
+    ]
 
 -- one more digit at the end
 pub decimal-more : (n x : ℕ) → 0 < n → x < 10 → n * 10 + x < 10 ^ 20 → decimal (n * 10 + x) ≡ decimal n ++ ((48 + x) ∷ [])
@@ -70,28 +73,33 @@ decimal-more n x pos small h =
 digits-longer : (d n c : ℕ) (ds : List ℕ) → 0 < length (digits d n (c ∷ ds))
 digits-longer zero n c ds = omega arith
 digits-longer (suc d) n c ds =
-    elim (cases-lt n 10)
-    [ inl h ↦ rw (digits-last d n (c ∷ ds) h) (omega arith)
-    | inr h ↦ rw (digits-more d n (c ∷ ds) h) (digits-longer d (n / 10) (48 + n % 10) (c ∷ ds)) ]
+    elim (cases-lt n 10) [
+      | inl h ↦ rw (digits-last d n (c ∷ ds) h) (omega arith)
+      | inr h ↦ rw (digits-more d n (c ∷ ds) h) (digits-longer d (n / 10) (48 + n % 10) (c ∷ ds))
+    ]
+
 pub digits-nonempty : (d n : ℕ) (ds : List ℕ) → 0 < length (digits (suc d) n ds)
 digits-nonempty d n ds =
-    elim (cases-lt n 10)
-    [ inl h ↦ rw (digits-last d n ds h) (omega arith)
-    | inr h ↦ rw (digits-more d n ds h) (digits-longer d (n / 10) (48 + n % 10) ds) ]
+    elim (cases-lt n 10) [
+      | inl h ↦ rw (digits-last d n ds h) (omega arith)
+      | inr h ↦ rw (digits-more d n ds h) (digits-longer d (n / 10) (48 + n % 10) ds)
+    ]
 
 pub digits-all : (d n : ℕ) (ds : List ℕ) → Digits ds → Digits (digits d n ds)
 digits-all zero n ds h = h
 digits-all (suc d) n ds h =
-    elim (cases-lt n 10)
-    [ inl lt ↦ rw (digits-last d n ds lt) (omega arith, omega arith, h)
-    | inr ge ↦ rw (digits-more d n ds ge) (digits-all d (n / 10) ((48 + n % 10) ∷ ds) (omega arith, omega arith, h)) ]
+    elim (cases-lt n 10) [
+      | inl lt ↦ rw (digits-last d n ds lt) (omega arith, omega arith, h)
+      | inr ge ↦ rw (digits-more d n ds ge) (digits-all d (n / 10) ((48 + n % 10) ∷ ds) (omega arith, omega arith, h))
+    ]
 
 pub digits-head : (d n : ℕ) (ds : List ℕ) → 0 < n → n < 10 ^ d → getD (digits d n ds) 0 0 ≡ 48 → ⊥
 digits-head zero n ds pos h e = omega arith
 digits-head (suc d) n ds pos h e =
-    elim (cases-lt n 10)
-    [ inl lt ↦ let f : 48 + n ≡ 48 = rw (digits-last d n ds lt) at e in omega arith
-    | inr ge ↦ digits-head d (n / 10) ((48 + n % 10) ∷ ds) (omega arith) (tenth d n h) (rw (digits-more d n ds ge) at e) ]
+    elim (cases-lt n 10) [
+      | inl lt ↦ let f : 48 + n ≡ 48 = rw (digits-last d n ds lt) at e in omega arith
+      | inr ge ↦ digits-head d (n / 10) ((48 + n % 10) ∷ ds) (omega arith) (tenth d n h) (rw (digits-more d n ds ge) at e)
+    ]
 
 -- a number's digits write it
 pub value-digits : (d n : ℕ) (ds : List ℕ) → n < 10 ^ suc d → valueFrom 0 (digits (suc d) n ds) ≡ valueFrom n ds
@@ -101,15 +109,16 @@ value-digits zero n ds h =
     let e : 0 * 10 + (48 + n - 48) ≡ n = omega arith in
     ap (valueFrom 0) (digits-last zero n ds lt) ∙ ap (λ m. valueFrom m ds) e
 value-digits (suc d) n ds h =
-    elim (cases-lt n 10)
-    [ inl lt ↦
-        let e : 0 * 10 + (48 + n - 48) ≡ n = omega arith in
-        ap (valueFrom 0) (digits-last (suc d) n ds lt) ∙ ap (λ m. valueFrom m ds) e
-    | inr ge ↦
-        let e : n / 10 * 10 + (48 + n % 10 - 48) ≡ n = omega arith in
-        ap (valueFrom 0) (digits-more (suc d) n ds ge)
-        ∙ value-digits d (n / 10) ((48 + n % 10) ∷ ds) (tenth (suc d) n h)
-        ∙ ap (λ m. valueFrom m ds) e ]
+    elim (cases-lt n 10) [
+      | inl lt ↦
+          let e : 0 * 10 + (48 + n - 48) ≡ n = omega arith in
+          ap (valueFrom 0) (digits-last (suc d) n ds lt) ∙ ap (λ m. valueFrom m ds) e
+      | inr ge ↦
+          let e : n / 10 * 10 + (48 + n % 10 - 48) ≡ n = omega arith in
+          ap (valueFrom 0) (digits-more (suc d) n ds ge)
+          ∙ value-digits d (n / 10) ((48 + n % 10) ∷ ds) (tenth (suc d) n h)
+          ∙ ap (λ m. valueFrom m ds) e
+    ]
 
 pub valueFrom-least : (n : ℕ) (cs : List ℕ) → n ≤ valueFrom n cs
 valueFrom-least n [] = omega arith
@@ -210,9 +219,10 @@ empty-no-number w h n lt e = let pos = decimal-nonempty n in let l = ap length e
 
 pub zero-no-number : (w : List ℕ) → 1 < length w → getD w 0 0 ≡ 48 → (n : ℕ) → n < 2 ^ 64 → w ≡ decimal n → ⊥
 zero-no-number w long h n lt e =
-    elim (cases-eq n 0)
-    [ inl z ↦ let l : length w ≡ 1 = ap length (e ∙ ap decimal z ∙ decimal-zero) in omega arith
-    | inr nz ↦ decimal-head n (omega arith) (omega arith) (ap (λ v. getD v 0 0) (sym e) ∙ h) ]
+    elim (cases-eq n 0) [
+      | inl z ↦ let l : length w ≡ 1 = ap length (e ∙ ap decimal z ∙ decimal-zero) in omega arith
+      | inr nz ↦ decimal-head n (omega arith) (omega arith) (ap (λ v. getD v 0 0) (sym e) ∙ h)
+    ]
 
 pub stops-no-number : (w : List ℕ) (i : ℕ) → i < length w → (48 ≤ getD w i 0 → getD w i 0 ≤ 57 → 2 ^ 64 ≤ valueFrom 0 (take i w) * 10 + (getD w i 0 - 48)) → (n : ℕ) → n < 2 ^ 64 → w ≡ decimal n → ⊥
 stops-no-number w i lt stop n small e =

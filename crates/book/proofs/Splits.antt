@@ -48,10 +48,11 @@ words-at s p q lt le all ends =
     let long = length-drop p s in
     let e : p + (q - p) ≡ q = omega arith in
     words-word (drop p s) (q - p) (omega arith) (omega arith)
-      (λ k h. rw (getD-drop p s k 0) (all (p + k) (omega arith) (omega arith)))
-      (elim ends
-        [ inl at-end ↦ inl (omega arith)
-        | inr b ↦ inr (rw (getD-drop p s (q - p) 0, e) b) ])
+    (λ k h. rw (getD-drop p s k 0) (all (p + k) (omega arith) (omega arith)))
+    (elim ends [
+      | inl at-end ↦ inl (omega arith)
+      | inr b ↦ inr (rw (getD-drop p s (q - p) 0, e) b)
+    ])
     ∙ ap (λ t. take (q - p) (drop p s) ∷ words t) (drop-drop (q - p) p s ∙ ap (λ m. drop m s) e)
 
 -- past a blank

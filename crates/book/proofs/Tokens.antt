@@ -38,9 +38,11 @@ names =
     ∷ (binaryName Shl, token.Operation (Binary Shl)) ∷ (binaryName Lshr, token.Operation (Binary Lshr))
     ∷ (binaryName Ashr, token.Operation (Binary Ashr)) ∷ (binaryName Comp, token.Operation (Binary Comp))
     ∷ (binaryName Ult, token.Operation (Binary Ult)) ∷ (binaryName Slt, token.Operation (Binary Slt)) ∷ []
+
 abbrev named : List (List ℕ × Token) → List ℕ → Token
 named [] w = token.Other
 named (k ∷ ks) w = pick (sameBytes w (k .0)) (k .1) (named ks w)
+
 -- what begins with a digit is a number
 abbrev tokenOf : List ℕ → Token
 tokenOf w = pick (leb 58 (getD w 0 0)) (named names w) (token.Number (valueFrom 0 w))

@@ -30,15 +30,17 @@ use Rattle.book.proofs.Tokens.{one-token}
 -- equal lists of words have equal first words and equal rests
 pub first-same : {A : Type 0} (x y : A) (xs ys : List A) → x ∷ xs ≡ y ∷ ys → x ≡ y
 first-same x y xs ys e = cc
+
 pub rest-same : {A : Type 0} (x y : A) (xs ys : List A) → x ∷ xs ≡ y ∷ ys → xs ≡ ys
 rest-same x y xs ys e = cc
+
 pub never-empty : {A : Type 0} (x : A) (xs : List A) → x ∷ xs ≡ [] → ⊥
 never-empty x xs e = let z : _≡_ {A = ℕ} 0 1 = cc in omega arith
 
 -- ---- a term that begins with a word
 
 -- the token that a term begins with
-abbrev head : Term → Token
+abbrev pub head : Term → Token
 head (any i) = token.Leaf Any
 head (con i) = token.Leaf Con
 head (lit n) = token.Leaf Lit
@@ -55,7 +57,7 @@ Begins (token.Operation o) f ws r = (es : List Term) × (length es ≡ arity o) 
 Begins (token.Number n) f ws r = ⊥
 Begins token.Other f ws r = ⊥
 
-head-writes : (f : Term) (w : List ℕ) (ws r : List (List ℕ)) → w ∷ ws ≡ writeTerm f ++ r → Writes (head f) w
+pub head-writes : (f : Term) (w : List ℕ) (ws r : List (List ℕ)) → w ∷ ws ≡ writeTerm f ++ r → Writes (head f) w
 head-writes (any i) w ws r e = first-same _ _ _ _ e
 head-writes (con i) w ws r e = first-same _ _ _ _ e
 head-writes (lit n) w ws r e = first-same _ _ _ _ e
@@ -139,6 +141,7 @@ abbrev partsWrite : Operation → List Term → List (List ℕ) → List (List �
 partsWrite (Unary o) es s = writeTerm (getD es 0 (any 0)) ++ s
 partsWrite (Binary o) es s = writeTerm (getD es 0 (any 0)) ++ (writeTerm (getD es 1 (any 0)) ++ s)
 partsWrite Ite es s = writeTerm (getD es 0 (any 0)) ++ (writeTerm (getD es 1 (any 0)) ++ (writeTerm (getD es 2 (any 0)) ++ s))
+
 parts-write : {o : Operation} {es : List Term} (s : List (List ℕ)) → Parts o es → writeTerms es ++ s ≡ partsWrite o es s
 parts-write s (one {o} {x}) = ap (λ l. l ++ s) (append-nil (writeTerm x))
 parts-write s (two {o} {x} {y}) = append-assoc (writeTerm x) (writeTerm y ++ []) s ∙ ap (λ l. writeTerm x ++ (l ++ s)) (append-nil (writeTerm y))
@@ -186,7 +189,7 @@ one-term v (ite t x y) f r s h k q =
     let ks′ = and-parts _ _ (ks .1) in
     let es = b .0 in
     let w : writeTerm t ++ (writeTerm x ++ (writeTerm y ++ r)) ≡ writeTerm (getD es 0 (any 0)) ++ (writeTerm (getD es 1 (any 0)) ++ (writeTerm (getD es 2 (any 0)) ++ s)) =
-        ap (λ l. writeTerm t ++ l) (sym (append-assoc (writeTerm x) (writeTerm y) r)) ∙ sym (append-assoc (writeTerm t) (writeTerm x ++ writeTerm y) r) ∙ b .2 in
+    ap (λ l. writeTerm t ++ l) (sym (append-assoc (writeTerm x) (writeTerm y) r)) ∙ sym (append-assoc (writeTerm t) (writeTerm x ++ writeTerm y) r) ∙ b .2 in
     let p = one-term v t (getD es 0 (any 0)) _ _ (hs .0) (ks .0) w in
     let q = one-term v x (getD es 1 (any 0)) _ _ (hs′ .0) (ks′ .0) (p .1) in
     let z = one-term v y (getD es 2 (any 0)) r s (hs′ .1) (ks′ .1) (q .1) in

@@ -2,3 +2,4 @@
 pub mod Text
 pub mod Tokens
 pub mod Scan
+pub mod Reading

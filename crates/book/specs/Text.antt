@@ -17,13 +17,16 @@ use Rattle.terms.specs.Limits.{okRule}
 -- the words of a text: what stands between blanks (32) and line ends (10)
 abbrev pub blank : ℕ → Bool
 blank c = eqb c 32 || eqb c 10
+
 abbrev pub close : List ℕ → List (List ℕ) → List (List ℕ)
 close [] ws = ws
 close (c ∷ cs) ws = (c ∷ cs) ∷ ws
+
 -- the word that a text begins with, which is empty if a blank comes first, and the words after it
 abbrev pub split : List ℕ → List ℕ × List (List ℕ)
 split [] = ([], [])
 split (c ∷ cs) = let r = split cs in pick (blank c) ([], close (r .0) (r .1)) (c ∷ r .0, r .1)
+
 abbrev pub words : List ℕ → List (List ℕ)
 words s = let r = split s in close (r .0) (r .1)
 
@@ -31,6 +34,7 @@ words s = let r = split s in close (r .0) (r .1)
 abbrev pub digits : ℕ → ℕ → List ℕ → List ℕ
 digits zero n ds = ds
 digits (suc d) n ds = let e = (48 + n % 10) ∷ ds in pick (ltb n 10) e (digits d (n / 10) e)
+
 unfoldable pub decimal : ℕ → List ℕ
 decimal n = digits 20 n []
 
@@ -38,6 +42,7 @@ decimal n = digits 20 n []
 abbrev pub unaryName : UnaryOp → List ℕ
 unaryName Not = codes "bvnot"
 unaryName Neg = codes "bvneg"
+
 abbrev pub binaryName : BinaryOp → List ℕ
 binaryName Add = codes "bvadd"
 binaryName Sub = codes "bvsub"
@@ -62,11 +67,14 @@ writeTerm (lit n) = codes "lit" ∷ decimal n ∷ []
 writeTerm (unary o x) = unaryName o ∷ writeTerm x
 writeTerm (binary o x y) = binaryName o ∷ (writeTerm x ++ writeTerm y)
 writeTerm (ite t x y) = codes "ite" ∷ (writeTerm t ++ (writeTerm x ++ writeTerm y))
+
 abbrev pub writeTerms : List Term → List (List ℕ)
 writeTerms [] = []
 writeTerms (e ∷ es) = writeTerm e ++ writeTerms es
+
 abbrev pub writeRule : Rule → List (List ℕ)
 writeRule r = codes "rule" ∷ decimal (bits (r .width)) ∷ decimal (length (r .needs)) ∷ writeTerms (terms r)
+
 abbrev pub writeBook : List Rule → List (List ℕ)
 writeBook [] = []
 writeBook (r ∷ rs) = writeRule r ++ writeBook rs

@@ -19,11 +19,13 @@ abbrev pub leafName : Leaf → List ℕ
 leafName Any = codes "any"
 leafName Con = codes "con"
 leafName Lit = codes "lit"
+
 -- the term of a kind of leaf and its number, and its node
 abbrev pub leafTerm : Leaf → ℕ → Term
 leafTerm Any n = any n
 leafTerm Con n = con n
 leafTerm Lit n = lit n
+
 abbrev pub leafNode : Leaf → ℕ → Node
 leafNode Any n = node.Any n
 leafNode Con n = node.Con n
@@ -33,15 +35,18 @@ abbrev pub operationName : Operation → List ℕ
 operationName (Unary o) = unaryName o
 operationName (Binary o) = binaryName o
 operationName Ite = codes "ite"
+
 -- how many parts an operation has, the term that it makes of them, and its node
 abbrev pub arity : Operation → ℕ
 arity (Unary o) = 1
 arity (Binary o) = 2
 arity Ite = 3
+
 abbrev pub applied : Operation → List Term → Term
 applied (Unary o) es = unary o (getD es 0 (any 0))
 applied (Binary o) es = binary o (getD es 0 (any 0)) (getD es 1 (any 0))
 applied Ite es = ite (getD es 0 (any 0)) (getD es 1 (any 0)) (getD es 2 (any 0))
+
 abbrev pub operationNode : Operation → List ℕ → Node
 operationNode (Unary o) parts = node.Unary o (getD parts 0 0)
 operationNode (Binary o) parts = node.Binary o (getD parts 0 0) (getD parts 1 0)

@@ -4,7 +4,6 @@ ghost use Rattle.std.specs.Options.{Cases};
 ghost use Rattle.std.specs.Orderings.{Decides};
 ghost use Rattle.book.specs.Text.{unaryName, binaryName};
 ghost use Rattle.book.specs.Tokens.{operationName, No-operation};
-
 use crate::token::Operation;
 use words::BinaryOp;
 use words::UnaryOp;

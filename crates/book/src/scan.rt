@@ -7,7 +7,6 @@ ghost use lib.ListN.{length, getD, drop};
 ghost use Rattle.book.specs.Text.{blank, words};
 ghost use Rattle.book.specs.Tokens.{Is};
 ghost use Rattle.book.specs.Scan.{Next};
-
 use crate::name::operation;
 use crate::name::same;
 use crate::number::number;
@@ -90,7 +89,11 @@ pub(crate) fn next_word(text: &[u8], at: usize) -> Word
 {
     let start = skip_blanks(text, at);
     if start == text.len() {
-        return Word { token: Token::End, start, end: start };
+        return Word {
+            token: Token::End,
+            start,
+            end: start,
+        };
     }
     let end = skip_word(text, start);
     let token = classify(&text[start..end]);

@@ -19,11 +19,3 @@ sound-push w ns n x room all h i lt =
       | inl e ↦ rw (e, getD-set-same ns n x (Any 0) room) h
       | inr ne ↦ rw (getD-set-other ns n i x (Any 0) ne) (all i (omega arith))
     ]
-
--- what is below a bound at each place stays so after a write of a number below it
-pub below-set : (xs : List ℕ) (j x m b : ℕ) → j < length xs → x < b → ((k : ℕ) → k < m → getD xs k 0 < b) → (k : ℕ) → k < m → getD (set xs j x) k 0 < b
-below-set xs j x m b room h all k lt =
-    elim (cases-eq k j) [
-      | inl e ↦ rw (e, getD-set-same xs j x 0 room) h
-      | inr ne ↦ rw (getD-set-other xs j k x 0 ne) (all k lt)
-    ]

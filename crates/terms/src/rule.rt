@@ -50,6 +50,7 @@ impl RuleNodes {
         ensures place { λ r. ⌜ r ≡ now (self .entry) .len ⌝ }
         ensures len { λ r. ⌜ now (self .exit) .len ≡ now (self .entry) .len + 1 ⌝ }
         ensures nodes { λ r. ⌜ now (self .exit) .nodes ≡ set (now (self .entry) .nodes) (now (self .entry) .len) node ⌝ }
+        ensures there { λ r. ⌜ getD (now (self .exit) .nodes) r (Node.Any 0) ≡ node ⌝ }
         ensures width { λ r. ⌜ now (self .exit) .width ≡ now (self .entry) .width ⌝ }
         ensures needed { λ r. ⌜ now (self .exit) .needed ≡ now (self .entry) .needed ⌝ }
         ensures roots { λ r. ⌜ now (self .exit) .roots ≡ now (self .entry) .roots ⌝ }
@@ -60,16 +61,15 @@ impl RuleNodes {
         place
     }
 
-    // Makes the node at a place the root of term k.
-    pub fn set_root(&mut self, k: usize, place: usize)
-        requires term { ⌜ k < 6 ⌝ }
-        requires node { ⌜ place < 102 ⌝ }
-        ensures roots { λ _. ⌜ now (self .exit) .roots ≡ set (now (self .entry) .roots) k place ⌝ }
+    // Gives the rule its terms, by their roots.
+    pub fn set_roots(&mut self, roots: [usize; 6])
+        requires { ⌜ ((k : ℕ) → k < 6 → getD roots k 0 < 102) ⌝ }
+        ensures roots { λ _. ⌜ now (self .exit) .roots ≡ roots ⌝ }
         ensures len { λ _. ⌜ now (self .exit) .len ≡ now (self .entry) .len ⌝ }
         ensures nodes { λ _. ⌜ now (self .exit) .nodes ≡ now (self .entry) .nodes ⌝ }
         ensures width { λ _. ⌜ now (self .exit) .width ≡ now (self .entry) .width ⌝ }
         ensures needed { λ _. ⌜ now (self .exit) .needed ≡ now (self .entry) .needed ⌝ }
     {
-        self.roots[k] = place;
+        self.roots = roots;
     }
 }

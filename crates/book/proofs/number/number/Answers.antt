@@ -17,7 +17,7 @@ returns-then-word-eq48 c = zero-no-number _ (c .if-word-gt1 .taken) (c .if-word-
 pub returns-in-None : need.returns-in-None
 returns-in-None c =
     stops-no-number (c .args .word .now) (c .loop-i .i) (c .loop-i-test .taken)
-      (λ lo hi. let n = c .loop-i .inv .0 in let over = c .in-None .ensures tt lo hi in omega arith)
+    (λ lo hi. let n = c .loop-i .inv .0 in let over = c .in-None .ensures tt lo hi in omega arith)
 
 pub loop-i-again : need.loop-i-again
 loop-i-again c =
@@ -33,5 +33,5 @@ returns c =
     let whole : take (c .loop-i .i) w ≡ w = take-all _ w (c .loop-i-test .left) in
     let n : c .loop-i .n ≡ valueFrom 0 w = c .loop-i .inv .0 ∙ ap (valueFrom 0) whole in
     let front : 1 < length w → getD w 0 0 ≡ 48 → ⊥ =
-        λ long zero. elim (c .else-word-gt1 .came) [ else-word-gt1·by·then-word-gt1·else-word-eq48 p ↦ p .if-word-eq48 .left zero | else-word-gt1·by·else-word-gt1 p ↦ omega (arith, p .if-word-gt1 .left) ] in
+    λ long zero. elim (c .else-word-gt1 .came) [ else-word-gt1·by·then-word-gt1·else-word-eq48 p ↦ p .if-word-eq48 .left zero | else-word-gt1·by·else-word-gt1 p ↦ omega (arith, p .if-word-gt1 .left) ] in
     (sym (ap decimal n ∙ decimal-value w (omega arith) (subst Digits whole (c .loop-i .inv .1)) front (omega (arith, c .loop-i .inv .2))), c .loop-i .inv .2)

@@ -29,9 +29,10 @@ returns-then-start-text c =
 -- a word is not empty: where it begins there is no blank, and where it ends there is one
 grows : (s : List ℕ) (p q : ℕ) → p ≤ q → p < length s → (p < length s → blank (getD s p 0) ≡ false) → (q < length s → blank (getD s q 0) ≡ true) → p < q
 grows s p q le lt first last =
-    elim (cases-eq p q)
-    [ inl e ↦ absurd (both-ways (blank (getD s q 0)) (ap (λ k. blank (getD s k 0)) (sym e) ∙ first lt) (last (omega arith)))
-    | inr ne ↦ omega arith ]
+    elim (cases-eq p q) [
+      | inl e ↦ absurd (both-ways (blank (getD s q 0)) (ap (λ k. blank (getD s k 0)) (sym e) ∙ first lt) (last (omega arith)))
+      | inr ne ↦ omega arith
+    ]
 
 stops : (s : List ℕ) (q : ℕ) → q ≤ length s → (q < length s → blank (getD s q 0) ≡ true) → (q ≡ length s) ⊎ (blank (getD s q 0) ≡ true)
 stops s q le h = elim (cases-eq q (length s)) [ inl e ↦ inl e | inr ne ↦ inr (h (omega arith)) ]
@@ -44,8 +45,10 @@ returns c =
     let before = c .skip-blanks-start .ensures in
     let after = c .skip-word-end .ensures in
     let inside : p < length s = omega arith in
-    let lt : p < q = grows s p q (after .from) inside (before .stops) (after .stops) in
-    (before .from, before .to,
-     found s (take (q - p) (drop p s)) (c .args .at) q (c .classify-token .result) (c .classify-token .ensures)
-       (sym (before .words) ∙ words-at s p q lt (after .to) (after .inside) (stops s q (after .to) (after .stops)))
-       (omega arith) (after .to))
+    let lt : p < q = grows s p q (after .from) inside (before .stops) (after .stops) in (
+      before .from,
+      before .to,
+      found s (take (q - p) (drop p s)) (c .args .at) q (c .classify-token .result) (c .classify-token .ensures)
+          (sym (before .words) ∙ words-at s p q lt (after .to) (after .inside) (stops s q (after .to) (after .stops)))
+          (omega arith) (after .to),
+    )
