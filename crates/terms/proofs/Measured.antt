@@ -1,0 +1,104 @@
+-- The measures of nodes are those of the terms that they stand for.
+use mathlib.Core.Path.{_≡_, refl, sym, ap, ap₂, _∙_}
+use mathlib.Core.List.{List, [], _∷_}
+use Prim.Native.Nat.{ℕ, zero, suc, _+_, _-_, _*_, _^_, _<_, _≤_}
+use native.Mathlib.Nat.{add-zero, add-suc, suc-add, zero-add}
+use native.Mathlib.Omega.{arith}
+use lib.ListN.{length, getD, drop}
+use Rattle.std.proofs.shelf.Lists.{drop-more, getD-at, getD-append-left, getD-append-add, length-append}
+use Rattle.terms.specs.declared.rule.RuleNodes.{RuleNodes}
+use Rattle.terms.specs.Represents.{Represents}
+use lib.Bits.{bitOr, or-zero-l}
+use Rattle.words.specs.declared.Width.{Width}
+use Rattle.words.specs.declared.Width.the-variants.{W8, W16, W32, W64}
+use Rattle.words.specs.Words.{bits}
+use Rattle.terms.specs.declared.measure.Measure.{Measure}
+use Rattle.terms.specs.declared.node.Node.{Node}
+use Rattle.terms.specs.declared.node.Node.the-variants.{Any}
+use Rattle.terms.specs.Terms.{Term, Rule, terms, any, con, lit, unary, binary, ite, ops, load, load2}
+use Rattle.terms.specs.Nodes.{Stands, Rooted}
+use Rattle.terms.specs.Measures.{anySet, conSet, measured, measureOf, measureAll, union, nothing, operation, together, nodeMeasure}
+
+pub bits-le : (w : Width) → bits w < 65
+bits-le W8 = omega arith
+bits-le W16 = omega arith
+bits-le W32 = omega arith
+bits-le W64 = omega arith
+
+same-measure : (n o s t n' o' s' t' : ℕ) → n ≡ n' → o ≡ o' → s ≡ s' → t ≡ t' → _≡_ {A = Measure} (record { load = n; operations = o; anys = s; cons = t }) (record { load = n'; operations = o'; anys = s'; cons = t' })
+same-measure n o s t n' o' s' t' p q u v = rw (p, q, u, v)
+
+measured-together : (n o s t n' o' s' t' : ℕ) → together (measured n o s t) (measured n' o' s' t') ≡ measured (n + n') (o + o') (bitOr s s') (bitOr t t')
+measured-together n o s t n' o' s' t' = same-measure _ _ _ _ _ _ _ _ (omega arith) (omega arith) refl refl
+
+measured-operation : (m n o s t : ℕ) → together (operation m) (measured n o s t) ≡ measured (m + n) (1 + o) s t
+measured-operation m n o s t = same-measure _ _ _ _ _ _ _ _ (omega arith) (omega arith) (or-zero-l s) (or-zero-l t)
+
+-- a name or a literal
+measured-leaf : (w s t : ℕ) → w < 65 → _≡_ {A = Measure} (record { load = w; operations = 0; anys = s; cons = t }) (measured w 0 s t)
+measured-leaf w s t h = same-measure _ _ _ _ _ _ _ _ (omega arith) refl refl refl
+
+measure-two : (w : ℕ) (x y : Term) → together (measureOf w x) (measureOf w y) ≡ measured (load w x + load w y) (ops x + ops y) (bitOr (anySet x) (anySet y)) (bitOr (conSet x) (conSet y))
+measure-two w x y = measured-together _ _ (anySet x) (conSet x) _ _ (anySet y) (conSet y)
+
+-- one more term in front
+pub measure-cons : (w : ℕ) (e : Term) (es : List Term) → together (measureOf w e) (measureAll w es) ≡ measureAll w (e ∷ es)
+measure-cons w e es = measured-together _ _ (anySet e) (conSet e) _ _ (union anySet es) (union conSet es)
+
+-- the needed terms from place k - 1 on, from those from place k on
+pub measure-drop : (w : ℕ) (es : List Term) (k : ℕ) (m n : Measure) → 0 < k → k ≤ length es → m ≡ measureOf w (getD es (k - 1) (any 0)) → n ≡ measureAll w (drop k es) → together m n ≡ measureAll w (drop (k - 1) es)
+measure-drop w es k m n h le p q =
+    let back : k - 1 + 1 ≡ k = omega arith in
+    ap₂ together p q ∙ measure-cons w (getD es (k - 1) (any 0)) (drop k es)
+    ∙ ap (measureAll w) (ap (λ i. getD es (k - 1) (any 0) ∷ drop i es) (sym back) ∙ sym (drop-more es (k - 1) (any 0) (omega arith)))
+
+-- the measure of a node is that of its term, where those of the nodes before it are
+pub node-measure : (w : ℕ) (ns : List Node) (ms : List Measure) (i : ℕ) (e : Term) → w < 65 → ((j : ℕ) (f : Term) → j < i → Stands ns j f → getD ms j nothing ≡ measureOf w f) → Stands ns i e → nodeMeasure w ms (getD ns i (Any 0)) ≡ measureOf w e
+node-measure w ns ms i (any k) h all s = ap (nodeMeasure w ms) s ∙ measured-leaf w (2 ^ k) 0 h
+node-measure w ns ms i (con k) h all s = ap (nodeMeasure w ms) s ∙ measured-leaf w 0 (2 ^ k) h
+node-measure w ns ms i (lit n) h all s = ap (nodeMeasure w ms) s ∙ measured-leaf w 0 0 h
+node-measure w ns ms i (unary o x) h all s =
+    let p = all (s .0) x (s .2) (s .3) in
+    ap (nodeMeasure w ms) (s .1) ∙ ap (together (operation (16 * w))) p ∙ measured-operation (16 * w) (load w x) (ops x) (anySet x) (conSet x)
+node-measure w ns ms i (binary o x y) h all s =
+    let p = all (s .0) x (s .3) (s .5) in
+    let q = all (s .1) y (s .4) (s .6) in
+    ap (nodeMeasure w ms) (s .2)
+    ∙ ap (together (operation (load2 w o))) (ap₂ together p q ∙ measure-two w x y)
+    ∙ measured-operation _ _ _ _ _
+node-measure w ns ms i (ite t x y) h all s =
+    let o = all (s .0) t (s .4) (s .7) in
+    let p = all (s .1) x (s .5) (s .8) in
+    let q = all (s .2) y (s .6) (s .9) in
+    ap (nodeMeasure w ms) (s .3)
+    ∙ ap (together (operation (16 * w))) (ap₂ together o (ap₂ together p q ∙ measure-two w x y) ∙ measured-together _ _ (anySet t) (conSet t) _ _ (bitOr (anySet x) (anySet y)) (bitOr (conSet x) (conSet y)))
+    ∙ measured-operation _ _ _ _ _
+
+-- the term at place i of those that are rooted from root k on
+pub rooted-at : (ns : List Node) (n : ℕ) (roots : List ℕ) (k : ℕ) (es : List Term) (i : ℕ) → i < length es → Rooted ns n roots k es → (getD roots (k + i) 0 < n) × Stands ns (getD roots (k + i) 0) (getD es i (any 0))
+rooted-at ns n roots k [] i h r = let z : ⊥ = omega arith in absurd z
+rooted-at ns n roots k (e ∷ es) zero h r = rw add-zero (r .0, r .1)
+rooted-at ns n roots k (e ∷ es) (suc i) h r = rw (add-suc, ← suc-add) (rooted-at ns n roots (suc k) es i (omega arith) (r .2))
+
+-- what the nodes of a rule have as measures
+abbrev pub Measured : RuleNodes → List Measure → Type 0
+Measured x ms = (i : ℕ) (e : Term) → i < x .len → Stands (x .nodes) i e → getD ms i nothing ≡ measureOf (bits (x .width)) e
+
+root-measure : (x : RuleNodes) (r : Rule) (ms : List Measure) (k : ℕ) → Measured x ms → Represents x r → k < length (terms r) → getD ms (getD (x .roots) k 0) nothing ≡ measureOf (bits (r .width)) (getD (terms r) k (any 0))
+root-measure x r ms k all rep h =
+    let p = rw zero-add at (rooted-at (x .nodes) (x .len) (x .roots) 0 (terms r) k h (rep .rooted)) in
+    all (getD (x .roots) k 0) (getD (terms r) k (any 0)) (p .0) (p .1) ∙ ap (λ w. measureOf (bits w) (getD (terms r) k (any 0))) (rep .width)
+
+pub need-measure : (x : RuleNodes) (r : Rule) (ms : List Measure) (k : ℕ) → Measured x ms → Represents x r → k < x .needed → getD ms (getD (x .roots) k 0) nothing ≡ measureOf (bits (r .width)) (getD (r .needs) k (any 0))
+need-measure x r ms k all rep h =
+    let lt : k < length (r .needs) = omega (arith, rep .needed) in
+    root-measure x r ms k all rep (omega (arith, length-append (r .needs) (r .from ∷ r .to ∷ []))) ∙ ap (measureOf (bits (r .width))) (getD-append-left (r .needs) (r .from ∷ r .to ∷ []) (any 0) k lt)
+
+pub from-measure : (x : RuleNodes) (r : Rule) (ms : List Measure) → Measured x ms → Represents x r → getD ms (getD (x .roots) (x .needed) 0) nothing ≡ measureOf (bits (r .width)) (r .from)
+from-measure x r ms all rep =
+    root-measure x r ms (x .needed) all rep (omega (arith, rep .needed, length-append (r .needs) (r .from ∷ r .to ∷ []))) ∙ ap (measureOf (bits (r .width))) (getD-at (r .needs) (r .from) (r .to ∷ []) (any 0) (x .needed) (sym (rep .needed)))
+
+pub to-measure : (x : RuleNodes) (r : Rule) (ms : List Measure) → Measured x ms → Represents x r → getD ms (getD (x .roots) (x .needed + 1) 0) nothing ≡ measureOf (bits (r .width)) (r .to)
+to-measure x r ms all rep =
+    root-measure x r ms (x .needed + 1) all rep (omega (arith, rep .needed, length-append (r .needs) (r .from ∷ r .to ∷ [])))
+    ∙ ap (measureOf (bits (r .width))) (ap (λ n. getD (terms r) (n + 1) (any 0)) (rep .needed) ∙ getD-append-add (r .needs) (r .from ∷ r .to ∷ []) 1 (any 0))
