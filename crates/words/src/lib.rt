@@ -1,7 +1,19 @@
 // Machine words of 8, 16, 32 and 64 bits, held in a `u64`, and the operations on them.
-ghost use Prim.Native.Nat.{_+_, _^_};
+ghost use Prim.Native.Nat.{_+_, _%_, _^_, _<_};
 ghost use mathlib.Core.Path.{_≡_};
+ghost use Rattle.std.specs.Options.{Cases};
 ghost use Rattle.words.specs.Words.{bits};
+
+mod apply;
+mod arithmetic;
+mod bitwise;
+mod compare;
+mod shift;
+
+pub use apply::apply1;
+pub use apply::apply2;
+pub use arithmetic::Product;
+pub use arithmetic::wide_product;
 
 // The width of a word.
 #[derive(Clone, Copy)]
@@ -62,4 +74,25 @@ impl Width {
             Width::W64 => u64::MAX,
         }
     }
+
+    // The width of so many bits, if it is one of the four.
+    pub fn from_bits(n: u64) -> Option<Width>
+        ensures { λ r. ⌜ Cases r ((v : Width) → bits v ≡ n → ⊥) (λ v. bits v ≡ n) ⌝ }
+    {
+        match n {
+            8 => Some(Width::W8),
+            16 => Some(Width::W16),
+            32 => Some(Width::W32),
+            64 => Some(Width::W64),
+            _ => None,
+        }
+    }
+}
+
+// The lowest bits of `x`, as many as the width has.
+pub(crate) fn cut(width: Width, x: u64) -> u64
+    ensures value { λ r. ⌜ r ≡ x % 2 ^ bits width ⌝ }
+    ensures word { λ r. ⌜ r < 2 ^ bits width ⌝ }
+{
+    x & width.mask()
 }

@@ -1,0 +1,2 @@
+-- Laws of words that hold at every width.
+pub mod Laws
