@@ -1,11 +1,10 @@
 -- The measures of nodes are those of the terms that they stand for.
 use mathlib.Core.Path.{_≡_, refl, sym, ap, ap₂, _∙_}
-use mathlib.Core.List.{List, [], _∷_}
-use Prim.Native.Nat.{ℕ, zero, suc, _+_, _-_, _*_, _^_, _<_, _≤_}
-use native.Mathlib.Nat.{add-zero, add-suc, suc-add, zero-add}
+use mathlib.Core.List.{List, _∷_}
+use Prim.Native.Nat.{ℕ, _+_, _-_, _*_, _^_, _<_, _≤_}
 use native.Mathlib.Omega.{arith}
 use lib.ListN.{length, getD, drop}
-use Rattle.std.proofs.shelf.Lists.{drop-more, getD-at, getD-append-left, getD-append-add, length-append}
+use Rattle.std.proofs.shelf.Lists.{drop-more}
 use Rattle.terms.specs.declared.rule.RuleNodes.{RuleNodes}
 use Rattle.terms.specs.Represents.{Represents}
 use lib.Bits.{bitOr, or-zero-l}
@@ -15,8 +14,9 @@ use Rattle.words.specs.Words.{bits}
 use Rattle.terms.specs.declared.measure.Measure.{Measure}
 use Rattle.terms.specs.declared.node.Node.{Node}
 use Rattle.terms.specs.declared.node.Node.the-variants.{Any}
-use Rattle.terms.specs.Terms.{Term, Rule, terms, any, con, lit, unary, binary, ite, ops, load, load2}
-use Rattle.terms.specs.Nodes.{Stands, Rooted}
+use Rattle.terms.specs.Terms.{Term, Rule, any, con, lit, unary, binary, ite, ops, load, load2}
+use Rattle.terms.specs.Nodes.{Stands}
+use Rattle.terms.proofs.Roots.{need-root, from-root, to-root}
 use Rattle.terms.specs.Measures.{anySet, conSet, measured, measureOf, measureAll, union, nothing, operation, together, nodeMeasure}
 
 pub bits-le : (w : Width) → bits w < 65
@@ -74,31 +74,18 @@ node-measure w ns ms i (ite t x y) h all s =
     ∙ ap (together (operation (16 * w))) (ap₂ together o (ap₂ together p q ∙ measure-two w x y) ∙ measured-together _ _ (anySet t) (conSet t) _ _ (bitOr (anySet x) (anySet y)) (bitOr (conSet x) (conSet y)))
     ∙ measured-operation _ _ _ _ _
 
--- the term at place i of those that are rooted from root k on
-pub rooted-at : (ns : List Node) (n : ℕ) (roots : List ℕ) (k : ℕ) (es : List Term) (i : ℕ) → i < length es → Rooted ns n roots k es → (getD roots (k + i) 0 < n) × Stands ns (getD roots (k + i) 0) (getD es i (any 0))
-rooted-at ns n roots k [] i h r = let z : ⊥ = omega arith in absurd z
-rooted-at ns n roots k (e ∷ es) zero h r = rw add-zero (r .0, r .1)
-rooted-at ns n roots k (e ∷ es) (suc i) h r = rw (add-suc, ← suc-add) (rooted-at ns n roots (suc k) es i (omega arith) (r .2))
-
 -- what the nodes of a rule have as measures
 abbrev pub Measured : RuleNodes → List Measure → Type 0
 Measured x ms = (i : ℕ) (e : Term) → i < x .len → Stands (x .nodes) i e → getD ms i nothing ≡ measureOf (bits (x .width)) e
 
-root-measure : (x : RuleNodes) (r : Rule) (ms : List Measure) (k : ℕ) → Measured x ms → Represents x r → k < length (terms r) → getD ms (getD (x .roots) k 0) nothing ≡ measureOf (bits (r .width)) (getD (terms r) k (any 0))
-root-measure x r ms k all rep h =
-    let p = rw zero-add at (rooted-at (x .nodes) (x .len) (x .roots) 0 (terms r) k h (rep .rooted)) in
-    all (getD (x .roots) k 0) (getD (terms r) k (any 0)) (p .0) (p .1) ∙ ap (λ w. measureOf (bits w) (getD (terms r) k (any 0))) (rep .width)
+root-measure : (x : RuleNodes) (r : Rule) (ms : List Measure) (i : ℕ) (e : Term) → Measured x ms → Represents x r → (i < x .len) × Stands (x .nodes) i e → getD ms i nothing ≡ measureOf (bits (r .width)) e
+root-measure x r ms i e all rep p = all i e (p .0) (p .1) ∙ ap (λ w. measureOf (bits w) e) (rep .width)
 
 pub need-measure : (x : RuleNodes) (r : Rule) (ms : List Measure) (k : ℕ) → Measured x ms → Represents x r → k < x .needed → getD ms (getD (x .roots) k 0) nothing ≡ measureOf (bits (r .width)) (getD (r .needs) k (any 0))
-need-measure x r ms k all rep h =
-    let lt : k < length (r .needs) = omega (arith, rep .needed) in
-    root-measure x r ms k all rep (omega (arith, length-append (r .needs) (r .from ∷ r .to ∷ []))) ∙ ap (measureOf (bits (r .width))) (getD-append-left (r .needs) (r .from ∷ r .to ∷ []) (any 0) k lt)
+need-measure x r ms k all rep h = root-measure x r ms _ _ all rep (need-root x r k rep h)
 
 pub from-measure : (x : RuleNodes) (r : Rule) (ms : List Measure) → Measured x ms → Represents x r → getD ms (getD (x .roots) (x .needed) 0) nothing ≡ measureOf (bits (r .width)) (r .from)
-from-measure x r ms all rep =
-    root-measure x r ms (x .needed) all rep (omega (arith, rep .needed, length-append (r .needs) (r .from ∷ r .to ∷ []))) ∙ ap (measureOf (bits (r .width))) (getD-at (r .needs) (r .from) (r .to ∷ []) (any 0) (x .needed) (sym (rep .needed)))
+from-measure x r ms all rep = root-measure x r ms _ (r .from) all rep (from-root x r rep)
 
 pub to-measure : (x : RuleNodes) (r : Rule) (ms : List Measure) → Measured x ms → Represents x r → getD ms (getD (x .roots) (x .needed + 1) 0) nothing ≡ measureOf (bits (r .width)) (r .to)
-to-measure x r ms all rep =
-    root-measure x r ms (x .needed + 1) all rep (omega (arith, rep .needed, length-append (r .needs) (r .from ∷ r .to ∷ [])))
-    ∙ ap (measureOf (bits (r .width))) (ap (λ n. getD (terms r) (n + 1) (any 0)) (rep .needed) ∙ getD-append-add (r .needs) (r .from ∷ r .to ∷ []) 1 (any 0))
+to-measure x r ms all rep = root-measure x r ms _ (r .to) all rep (to-root x r rep)

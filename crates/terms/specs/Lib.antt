@@ -6,3 +6,4 @@ pub mod Nodes
 pub mod Represents
 pub mod Measures
 pub mod Accepted
+pub mod Values
