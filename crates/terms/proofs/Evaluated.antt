@@ -1,16 +1,16 @@
 -- The values of nodes are those of the terms that they stand for.
 use mathlib.Core.Path.{_≡_, sym, ap, _∙_, subst}
 use mathlib.Core.Logic.{inl, inr}
+use mathlib.Core.Bool.{not}
 use mathlib.Core.List.{List, [], _∷_}
 use Prim.Native.Nat.{ℕ, zero, suc, _+_, _^_, _<_}
 use native.Mathlib.Omega.{arith}
 use lib.ListN.{length, getD, set}
+use lib.Dec.{eqb}
 use Rattle.std.proofs.shelf.Bits.{pow-pos}
 use Rattle.std.proofs.shelf.Lists.{getD-set-same, getD-set-other, getD-past}
 use Rattle.std.proofs.shelf.Tests.{cases-eq, cases-lt, eqb-false, ne-eqb, not-true, not-from-false}
 use Rattle.std.specs.Orderings.{Decides}
-use lib.Dec.{eqb}
-use mathlib.Core.Bool.{not}
 use Rattle.words.specs.Words.{bits, do1}
 use Rattle.terms.specs.declared.node.Node.{Node}
 use Rattle.terms.specs.declared.node.Node.the-variants.{Any}

@@ -4,26 +4,26 @@ use mathlib.Core.List.{List, _∷_}
 use Prim.Native.Nat.{ℕ, _+_, _-_, _*_, _^_, _<_, _≤_}
 use native.Mathlib.Omega.{arith}
 use lib.ListN.{length, getD, drop}
-use Rattle.std.proofs.shelf.Lists.{drop-more}
-use Rattle.terms.specs.declared.rule.RuleNodes.{RuleNodes}
-use Rattle.terms.specs.Represents.{Represents}
 use lib.Bits.{bitOr, or-zero-l}
+use Rattle.std.proofs.shelf.Lists.{drop-more}
 use Rattle.words.specs.declared.Width.{Width}
 use Rattle.words.specs.declared.Width.the-variants.{W8, W16, W32, W64}
 use Rattle.words.specs.Words.{bits}
 use Rattle.terms.specs.declared.measure.Measure.{Measure}
 use Rattle.terms.specs.declared.node.Node.{Node}
 use Rattle.terms.specs.declared.node.Node.the-variants.{Any}
+use Rattle.terms.specs.declared.rule.RuleNodes.{RuleNodes}
 use Rattle.terms.specs.Terms.{Term, Rule, any, con, lit, unary, binary, ite, ops, load, load2}
 use Rattle.terms.specs.Nodes.{Stands}
+use Rattle.terms.specs.Represents.{Represents}
+use Rattle.terms.specs.Measures.{anySet, conSet, measured, measureOf, measureAll, union, nothing, leaf, operation, together, nodeMeasure}
 use Rattle.terms.proofs.Roots.{need-root, from-root, to-root}
-use Rattle.terms.specs.Measures.{anySet, conSet, measured, measureOf, measureAll, union, nothing, operation, together, nodeMeasure}
 
-pub bits-le : (w : Width) → bits w < 65
-bits-le W8 = omega arith
-bits-le W16 = omega arith
-bits-le W32 = omega arith
-bits-le W64 = omega arith
+pub bits-small : (w : Width) → bits w < 65
+bits-small W8 = omega arith
+bits-small W16 = omega arith
+bits-small W32 = omega arith
+bits-small W64 = omega arith
 
 same-measure : (n o s t n' o' s' t' : ℕ) → n ≡ n' → o ≡ o' → s ≡ s' → t ≡ t' → _≡_ {A = Measure} (record { load = n; operations = o; anys = s; cons = t }) (record { load = n'; operations = o'; anys = s'; cons = t' })
 same-measure n o s t n' o' s' t' p q u v = rw (p, q, u, v)
@@ -34,8 +34,7 @@ measured-together n o s t n' o' s' t' = same-measure _ _ _ _ _ _ _ _ (omega arit
 measured-operation : (m n o s t : ℕ) → together (operation m) (measured n o s t) ≡ measured (m + n) (1 + o) s t
 measured-operation m n o s t = same-measure _ _ _ _ _ _ _ _ (omega arith) (omega arith) (or-zero-l s) (or-zero-l t)
 
--- a name or a literal
-measured-leaf : (w s t : ℕ) → w < 65 → _≡_ {A = Measure} (record { load = w; operations = 0; anys = s; cons = t }) (measured w 0 s t)
+measured-leaf : (w s t : ℕ) → w < 65 → leaf w s t ≡ measured w 0 s t
 measured-leaf w s t h = same-measure _ _ _ _ _ _ _ _ (omega arith) refl refl refl
 
 measure-two : (w : ℕ) (x y : Term) → together (measureOf w x) (measureOf w y) ≡ measured (load w x + load w y) (ops x + ops y) (bitOr (anySet x) (anySet y)) (bitOr (conSet x) (conSet y))

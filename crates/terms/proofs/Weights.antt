@@ -14,7 +14,7 @@ use Rattle.words.specs.Words.{bits}
 use Rattle.terms.specs.Terms.{Term, any, con, lit, unary, binary, ite, Rule, terms, ops, opsAll, load2, load, loadAll, weight}
 use Rattle.terms.specs.Limits.{okTerms, okRule}
 use Rattle.terms.specs.Measures.{measureRule, together}
-use Rattle.terms.proofs.Measured.{bits-le}
+use Rattle.terms.proofs.Measured.{bits-small}
 
 square-le : (w : ℕ) → w < 65 → w * w ≤ 4096
 square-le w h = mul-le w w 64 64 (omega arith) (omega arith)
@@ -63,7 +63,7 @@ few-operations r ok =
 
 weight-small : (r : Rule) → okRule r ≡ true → weight r < 2 ^ 64
 weight-small r ok =
-    let w = bits-le (r .width) in
+    let w = bits-small (r .width) in
     omega (arith, few-needs r ok, few-operations r ok, loadAll-le (bits (r .width)) (r .needs) w, load-le (bits (r .width)) (r .from) w, load-le (bits (r .width)) (r .to) w)
 
 -- so the loads of its terms add up to it without wrapping

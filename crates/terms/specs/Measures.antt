@@ -33,6 +33,7 @@ abbrev pub union : (Term → ℕ) → List Term → ℕ
 union f [] = 0
 union f (e ∷ es) = bitOr (f e) (union f es)
 
+-- a measure, from its parts before they wrap
 abbrev pub measured : ℕ → ℕ → ℕ → ℕ → Measure
 measured n o s t = record { load = n % 2 ^ 64; operations = o % 2 ^ 64; anys = s; cons = t }
 
@@ -50,6 +51,10 @@ measureRule r = record { needs = measureAll (bits (r .width)) (r .needs); from =
 abbrev pub nothing : Measure
 nothing = record { load = 0; operations = 0; anys = 0; cons = 0 }
 
+-- of a name or a literal
+abbrev pub leaf : ℕ → ℕ → ℕ → Measure
+leaf n s t = record { load = n; operations = 0; anys = s; cons = t }
+
 -- of an operation without its parts
 abbrev pub operation : ℕ → Measure
 operation n = record { load = n; operations = 1; anys = 0; cons = 0 }
@@ -60,9 +65,9 @@ together x y = record { load = (x .load + y .load) % 2 ^ 64; operations = (x .op
 
 -- of a node, from those of the nodes before it
 abbrev pub nodeMeasure : ℕ → List Measure → Node → Measure
-nodeMeasure w ms (Any k) = record { load = w; operations = 0; anys = 2 ^ k; cons = 0 }
-nodeMeasure w ms (Con k) = record { load = w; operations = 0; anys = 0; cons = 2 ^ k }
-nodeMeasure w ms (Lit n) = record { load = w; operations = 0; anys = 0; cons = 0 }
+nodeMeasure w ms (Any k) = leaf w (2 ^ k) 0
+nodeMeasure w ms (Con k) = leaf w 0 (2 ^ k)
+nodeMeasure w ms (Lit n) = leaf w 0 0
 nodeMeasure w ms (Unary o j) = together (operation (16 * w)) (getD ms j nothing)
 nodeMeasure w ms (Binary o j k) = together (operation (load2 w o)) (together (getD ms j nothing) (getD ms k nothing))
 nodeMeasure w ms (Ite h j k) = together (operation (16 * w)) (together (getD ms h nothing) (together (getD ms j nothing) (getD ms k nothing)))

@@ -7,7 +7,7 @@ ghost use Rattle.words.specs.Words.{bits};
 ghost use Rattle.terms.specs.Terms.{Term, Rule, load2};
 ghost use Rattle.terms.specs.Nodes.{Stands, sound};
 ghost use Rattle.terms.specs.Represents.{Represents};
-ghost use Rattle.terms.specs.Measures.{measureOf, measureRule, nodeMeasure, nothing, operation, together};
+ghost use Rattle.terms.specs.Measures.{measureOf, measureRule, nodeMeasure, nothing, leaf, operation, together};
 use super::Node;
 use super::RuleNodes;
 use words::BinaryOp;
@@ -35,6 +35,7 @@ pub(crate) struct RuleMeasure {
 }
 
 impl Measure {
+    // Of no term.
     fn nothing() -> Measure
         ensures { λ r. ⌜ r ≡ nothing ⌝ }
     {
@@ -43,6 +44,18 @@ impl Measure {
             operations: 0,
             anys: 0,
             cons: 0,
+        }
+    }
+
+    // Of a name or a literal, with the sets of its names.
+    fn leaf(load: u64, anys: u16, cons: u16) -> Measure
+        ensures { λ r. ⌜ r ≡ leaf load anys cons ⌝ }
+    {
+        Measure {
+            load,
+            operations: 0,
+            anys,
+            cons,
         }
     }
 
@@ -94,31 +107,18 @@ fn node_measure(width: Width, node: Node, i: usize, before: &[Measure; 102]) -> 
 {
     let load = u64::from(width.bits());
     match node {
-        Node::Any(k) => Measure {
-            load,
-            operations: 0,
-            anys: 1 << k,
-            cons: 0,
-        },
-        Node::Con(k) => Measure {
-            load,
-            operations: 0,
-            anys: 0,
-            cons: 1 << k,
-        },
-        Node::Lit(_) => Measure {
-            load,
-            operations: 0,
-            anys: 0,
-            cons: 0,
-        },
+        Node::Any(k) => Measure::leaf(load, 1 << k, 0),
+        Node::Con(k) => Measure::leaf(load, 0, 1 << k),
+        Node::Lit(_) => Measure::leaf(load, 0, 0),
         Node::Unary(_, j) => Measure::operation(16 * load).and(before[j]),
-        Node::Binary(op, j, k) => Measure::operation(binary_load(width, op)).and(before[j].and(
-            before[k],
-        )),
-        Node::Ite(h, j, k) => Measure::operation(16 * load).and(before[h].and(before[j].and(
-            before[k],
-        ))),
+        Node::Binary(op, j, k) => {
+            let parts = before[j].and(before[k]);
+            Measure::operation(binary_load(width, op)).and(parts)
+        }
+        Node::Ite(h, j, k) => {
+            let parts = before[h].and(before[j].and(before[k]));
+            Measure::operation(16 * load).and(parts)
+        }
     }
 }
 
@@ -134,12 +134,13 @@ fn node_measures(rule: &RuleNodes) -> [Measure; 102]
 }
 
 impl RuleMeasure {
+    // The measures of the rule that the nodes represent.
     pub(crate) fn of(rule: &RuleNodes) -> RuleMeasure
         ensures { λ x. ⌜ ((r : Rule) → Represents (now (rule .entry)) r → x ≡ measureRule r) ⌝ }
     {
         let all = node_measures(rule);
         let mut needs = Measure::nothing();
-        // from the last to the first, as the list of the needed terms is made
+        // from the last on, so that each joins in front of those after it
         for k in (0..rule.needed).rev() {
             needs = all[rule.roots[k]].and(needs);
         }

@@ -6,7 +6,7 @@ use Rattle.std.proofs.shelf.Tests.{cases-eq}
 use Rattle.words.specs.Words.{bits}
 use Rattle.terms.specs.Nodes.{Stands}
 use Rattle.terms.specs.Measures.{nothing}
-use Rattle.terms.proofs.Measured.{bits-le, node-measure}
+use Rattle.terms.proofs.Measured.{bits-small, node-measure}
 use Rattle.terms.proofs.measure.node_measures.Needs as need
 
 pub loop-i-again : need.loop-i-again
@@ -17,7 +17,7 @@ loop-i-again c = (
         | inl same ↦
             let there = subst (λ k. Stands (c .args .rule .now .nodes) k e) same s in
             rw same (getD-set-same (c .loop-i .all) (c .loop-i .i) (c .node-measure .result) nothing (omega arith)
-            ∙ c .node-measure .ensures ∙ node-measure (bits (c .args .rule .now .width)) (c .args .rule .now .nodes) (c .loop-i .all) (c .loop-i .i) e (bits-le (c .args .rule .now .width)) (c .loop-i .inv .1) there)
+            ∙ c .node-measure .ensures ∙ node-measure (bits (c .args .rule .now .width)) (c .args .rule .now .nodes) (c .loop-i .all) (c .loop-i .i) e (bits-small (c .args .rule .now .width)) (c .loop-i .inv .1) there)
         | inr ne ↦ getD-set-other (c .loop-i .all) (c .loop-i .i) j (c .node-measure .result) nothing ne ∙ c .loop-i .inv .1 j e (omega arith) s
       ],
 )
