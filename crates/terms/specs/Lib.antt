@@ -4,3 +4,6 @@ pub mod Limits
 pub mod Usable
 pub mod Nodes
 pub mod Represents
+pub mod Measures
+pub mod Accepted
+pub mod Values
