@@ -49,7 +49,7 @@ limits r h =
     let q = and-parts _ _ (p .1) in
     record { few = leb-true _ _ (p .0); small = leb-true _ _ (q .0); ok = q .1 }
 
-length-terms : (r : Rule) → length (terms r) ≡ length (r .needs) + 2
+pub length-terms : (r : Rule) → length (terms r) ≡ length (r .needs) + 2
 length-terms r = length-append (r .needs) (r .from ∷ r .to ∷ [])
 
 -- the terms of a rule are its needed terms and its two sides

@@ -4,4 +4,5 @@ pub mod Tokens
 pub mod Unique
 pub mod Books
 pub mod TermReads
+pub mod RuleReads
 pub mod Places

@@ -3,7 +3,10 @@ use mathlib.Core.Path.{_≡_}
 use mathlib.Core.Bool.{true}
 use mathlib.Core.List.{List, [], _∷_, _++_}
 use Prim.Native.Nat.{ℕ, _+_, _*_, _^_, _<_, _≤_}
+use lib.Chars.{codes}
 use lib.ListN.{length, getD, set}
+use Rattle.std.specs.Results.{Cases}
+use Rattle.std.specs.declared.result.Result.{Result}
 use Rattle.words.specs.declared.Width.{Width}
 use Rattle.words.specs.Words.{bits}
 use Rattle.terms.specs.declared.node.Node.{Node}
@@ -14,7 +17,8 @@ use Rattle.terms.specs.Limits.{okTerm, okTerms, okRule}
 use Rattle.terms.specs.Nodes.{Stands, Rooted}
 use Rattle.terms.specs.Represents.{Represents}
 use Rattle.book.specs.declared.token.Leaf.{Leaf}
-use Rattle.book.specs.Text.{decimal, writeTerm, writeTerms, writeRule}
+use Rattle.book.specs.declared.fault.Fault.{Fault}
+use Rattle.book.specs.Text.{decimal, words, writeTerm, writeTerms, writeRule, writeBook, okRules, Book, One-book}
 use Rattle.book.specs.Tokens.{leafTerm, leafNode}
 use Rattle.book.specs.Scan.{rest}
 
@@ -88,6 +92,16 @@ pub record Terms-read (s : List ℕ) (p n left : ℕ) (x x′ : RuleNodes) (root
 abbrev pub No-terms : List ℕ → ℕ → ℕ → ℕ → Width → Type 0
 No-terms s p n left v = (es : List Term) (r : List (List ℕ)) → length es ≡ n → okTerms (bits v) es ≡ true → opsAll es ≤ left → rest s p ≡ writeTerms es ++ r → ⊥
 
+-- from p to q the text has the head of a rule: its width, and how many terms it needs, at most four; from p on it has none
+pub record Header-read (s : List ℕ) (p : ℕ) (v : Width) (n q : ℕ) : Type 0 where
+  pub text : rest s p ≡ codes "rule" ∷ decimal (bits v) ∷ decimal n ∷ rest s q
+  pub few : n ≤ 4
+  pub longer : p < q
+  pub within : q ≤ length s
+
+abbrev pub No-header : List ℕ → ℕ → Type 0
+No-header s p = (v : Width) (n : ℕ) (r : List (List ℕ)) → n ≤ 4 → rest s p ≡ codes "rule" ∷ decimal (bits v) ∷ decimal n ∷ r → ⊥
+
 -- from p to q the text has a rule within the limits, and these are its nodes; from p on it has none
 pub record Rule-read (s : List ℕ) (p : ℕ) (x : RuleNodes) (q : ℕ) : Type 0 where
   pub rule : Rule
@@ -99,3 +113,17 @@ pub record Rule-read (s : List ℕ) (p : ℕ) (x : RuleNodes) (q : ℕ) : Type 0
 
 abbrev pub No-rule : List ℕ → ℕ → Type 0
 No-rule s p = (r : Rule) (ws : List (List ℕ)) → okRule r ≡ true → rest s p ≡ writeRule r ++ ws → ⊥
+
+-- up to p the text s has so many rules within the limits
+pub record Rules-read (s : List ℕ) (p n : ℕ) : Type 0 where
+  pub rules : List Rule
+  pub count : length rules ≡ n
+  pub text : words s ≡ writeBook rules ++ rest s p
+  pub ok : okRules rules ≡ true
+  pub few : n ≤ 256
+  pub within : p ≤ length s
+
+-- What comes of reading a text: it is a book of so many rules, or none; and it is one book at most.
+pub record Book-read (s : List ℕ) (r : Result ℕ Fault) : Type 0 where
+  pub says : Cases r (λ n. (rs : List Rule) × Book s rs × (length rs ≡ n)) (λ _. (rs : List Rule) → Book s rs → ⊥)
+  pub one : One-book s

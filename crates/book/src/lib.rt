@@ -1,13 +1,15 @@
 // The text of a rule book: reading it, and whether it is one.
+mod book;
 mod fault;
 mod name;
 mod number;
+mod rule;
 mod scan;
 mod term;
 mod token;
 
+pub use book::read_book;
 pub use fault::Fault;
 pub use fault::Reason;
-pub use token::Leaf;
-pub use token::Operation;
-pub use token::Token;
+pub use rule::RuleRead;
+pub use rule::read_rule;
