@@ -1,0 +1,3 @@
+-- Clauses: the definitions that the contracts cite.
+pub mod Clauses
+pub mod Flat
