@@ -89,7 +89,7 @@ book-begins (a ∷ rs) (b ∷ bs) r h k q =
     let z = book-begins rs bs r (hs .1) (ks .1) (p .1) in
     (z .0, (λ i. sym (p .0) i ∷ z .1 i), z .2)
 
-no-rules : (cs : List Rule) → [] ≡ writeBook cs → cs ≡ []
+pub no-rules : (cs : List Rule) → [] ≡ writeBook cs → cs ≡ []
 no-rules [] e = refl
 no-rules (c ∷ cs) e = absurd (never-empty _ _ (sym e))
 

@@ -23,7 +23,7 @@ use Rattle.book.specs.Text.{decimal, words, writeTerms, writeRule, writeBook, 
 use Rattle.book.specs.Scan.{rest, Found, At}
 use Rattle.book.specs.Reading.{Number-read, No-number, Terms-read, No-terms, Header-read, No-header, Rule-read, No-rule, Rules-read}
 use Rattle.book.proofs.Unique.{first-same, rest-same, never-empty, decimal-same}
-use Rattle.book.proofs.Books.{limits, length-terms, width-same, bits-short, book-begins}
+use Rattle.book.proofs.Books.{limits, length-terms, width-same, bits-short, book-begins, no-rules}
 use Rattle.book.proofs.TermReads.{token-at}
 
 -- ---- the head of a rule
@@ -178,12 +178,23 @@ no-rule-no-book s p n rs more none bs b =
     let ok = okRules-after (rs .rules) (a .0) (subst (λ l. okRules l ≡ true) (a .1) (and-parts _ _ (b .ok) .0)) in
     none (c .0) (writeBook (c .1)) (and-parts _ _ (subst (λ l. okRules l ≡ true) (c .2) ok) .0) (a .2 ∙ ap writeBook (c .2))
 
+pub book-few : (s : List ℕ) (bs : List Rule) → Book s bs → length bs ≤ 256
+book-few s bs b = leb-true (length bs) 256 (and-parts _ _ (b .ok) .1)
+
 -- where words are left after 256 rules, the text is no book
 pub too-many-no-book : (s : List ℕ) (p n : ℕ) → Rules-read s p n → (rest s p ≡ [] → ⊥) → n ≡ 256 → (bs : List Rule) → Book s bs → ⊥
 too-many-no-book s p n rs more full bs b =
     let a = after-rules s p n rs bs b in
     let c = some-rule (a .0) (rest s p) (a .2) more in
     let count = rs .count in
-    let few : length bs ≤ 256 = leb-true _ _ (and-parts _ _ (b .ok) .1) in
+    let few = book-few s bs b in
     let long : length bs ≡ length (rs .rules) + suc (length (c .1)) = ap length (a .1 ∙ ap (λ l. rs .rules ++ l) (c .2)) ∙ length-append (rs .rules) (c .0 ∷ c .1) in
     omega arith
+
+-- where a book has more rules than were read, one can be read
+pub rule-there : (s : List ℕ) (p n : ℕ) → Rules-read s p n → (bs : List Rule) → Book s bs → n < length bs → No-rule s p → ⊥
+rule-there s p n rs bs b lt none =
+    let a = after-rules s p n rs bs b in
+    let count = rs .count in
+    let long : length bs ≡ length (rs .rules) + length (a .0) = ap length (a .1) ∙ length-append (rs .rules) (a .0) in
+    no-rule-no-book s p n rs (λ e. let z : length (a .0) ≡ 0 = ap length (no-rules (a .0) (sym e ∙ a .2)) in omega arith) none bs b

@@ -3,3 +3,4 @@ pub mod Text
 pub mod Tokens
 pub mod Scan
 pub mod Reading
+pub mod Place

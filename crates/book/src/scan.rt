@@ -46,7 +46,7 @@ fn classify(word: &[u8]) -> Token
     }
 }
 
-fn is_blank(c: u8) -> bool
+pub(crate) fn is_blank(c: u8) -> bool
     ensures { λ r. ⌜ r ≡ blank c ⌝ }
 {
     c == b' ' || c == b'\n'
