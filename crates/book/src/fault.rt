@@ -28,8 +28,10 @@ pub impl fmt::Display for Reason as ReasonDisplay {
             Reason::WidthExpected => "a width is expected: 8, 16, 32 or 64",
             Reason::NeededExpected => "at most 4 terms may be needed",
             Reason::TermExpected => "a term is expected",
-            Reason::NumberExpected => "a number is expected, in decimal with no 0 in front",
-            Reason::NumberTooLarge => "the number is too large: names go to 15, literals to the largest word",
+            Reason::NumberExpected =>
+                "a number below 2^64 is expected, in decimal with no 0 in front",
+            Reason::NumberTooLarge =>
+                "the number is too large: names go to 15, literals to the largest word",
             Reason::TooManyOperations => "a rule has at most 32 operations",
             Reason::TooManyRules => "a book has at most 256 rules",
         };

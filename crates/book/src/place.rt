@@ -3,7 +3,6 @@ ghost use Prim.Native.Nat.{_<_, min};
 ghost use mathlib.Core.Path.{_≡_};
 ghost use lib.ListN.{length};
 ghost use Rattle.book.specs.Place.{begins, lineAt, wordAt};
-
 use crate::scan::is_blank;
 
 // A line, and a word of the line, both from 1 on.

@@ -3,7 +3,6 @@
 // fault.
 ghost use Rattle.std.specs.declared.result.Result.the-variants.{Ok};
 ghost use Rattle.book.specs.Reading.{Book-read};
-
 use book::ReasonDisplay;
 use book::locate;
 use book::read_book;
@@ -46,7 +45,11 @@ fn report(rt: &LibcRuntime, text: &[u8], rules: usize) -> Result<(), AnyError>
             Err(_) => unreachable(),
         };
         let heavy = weight(&read.rule);
-        let verdict = if usable(&read.rule) { "may be used" } else { "may not be used" };
+        let verdict = if usable(&read.rule) {
+            "may be used"
+        } else {
+            "may not be used"
+        };
         println!(rt, "rule {}: weight {heavy}, {verdict}", i + 1)?;
         at = read.end;
     }
@@ -71,7 +74,11 @@ fn run(rt: &LibcRuntime) -> Result<(), AnyError> {
         Err(fault) => {
             let here = locate(text, fault.at);
             let reason = fault.reason;
-            println!(rt, "no book: line {}, word {}: {reason}", here.line, here.word)?;
+            println!(
+                rt,
+                "no book: line {}, word {}: {reason}",
+                here.line, here.word
+            )?;
             Err("no book".into())
         }
     }

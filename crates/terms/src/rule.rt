@@ -57,7 +57,7 @@ impl RuleNodes {
     {
         let place = self.len;
         self.nodes[place] = node;
-        self.len = place + 1;
+        self.len += 1;
         place
     }
 
