@@ -1,0 +1,59 @@
+// When to start over and when to forget.
+//
+// The search starts over after 64 times the numbers 1, 1, 2, 1, 1, 2, 4, 1, 1, 2, ... of conflicts
+// (Luby's sequence, by Knuth's two counters). When it does it may forget learned clauses: after 1,000
+// of them and 100 more each time, or when there was no room for one.
+
+#[derive(Clone, Copy)]
+pub struct Policy {
+    conflicts: u32,
+    run: u32,
+    length: u32,
+    learned: u32,
+    most: u32,
+    full: bool,
+}
+
+impl Policy {
+    pub fn new() -> Policy {
+        Policy { conflicts: 0, run: 1, length: 1, learned: 0, most: 1000, full: false }
+    }
+
+    // A conflict was met, and a clause learned from it or not for want of room.
+    pub fn note_conflict(&mut self, stored: bool) {
+        self.conflicts = self.conflicts.saturating_add(1);
+        if stored {
+            self.learned = self.learned.saturating_add(1);
+        } else {
+            self.full = true;
+        }
+    }
+
+    // Whether to start over.
+    pub fn restart_due(&self) -> bool {
+        self.full || self.conflicts >= self.length.saturating_mul(64)
+    }
+
+    // The search has started over.
+    pub fn note_restart(&mut self) {
+        self.conflicts = 0;
+        if self.run & self.run.wrapping_neg() == self.length {
+            self.run = self.run.saturating_add(1);
+            self.length = 1;
+        } else {
+            self.length = self.length.saturating_mul(2);
+        }
+    }
+
+    // Whether to forget clauses, now that the search starts over.
+    pub fn reduction_due(&self) -> bool {
+        self.full || self.learned >= self.most
+    }
+
+    // So many learned clauses are left.
+    pub fn note_reduction(&mut self, kept: u32) {
+        self.learned = kept;
+        self.most = self.most.saturating_add(100).max(kept.saturating_add(100));
+        self.full = false;
+    }
+}
