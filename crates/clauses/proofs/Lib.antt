@@ -1,0 +1,4 @@
+-- Clauses: what the proofs of this crate, and of those above it, rest on.
+pub mod Truth
+pub mod Forms
+pub mod Parses
