@@ -2,14 +2,14 @@
 use mathlib.Core.Path.{_≡_, refl, sym, subst}
 use mathlib.Core.Bool.{Bool, true, false, not}
 use mathlib.Core.List.{List, [], _∷_}
-use Prim.Native.Nat.{ℕ, zero, suc, _+_, _<_, _≤_}
+use Prim.Native.Nat.{ℕ, zero, suc, _+_, _-_, _/_, _<_, _≤_}
 use native.Mathlib.Omega.{arith}
 use lib.ListN.{length, getD, drop}
 use lib.Dec.{eqb}
 use Rattle.std.proofs.shelf.Lists.{drop-more, drop-all}
 use Rattle.std.proofs.shelf.Tests.{ne-eqb, true≢false}
 use Rattle.std.specs.Orderings.{When}
-use Rattle.clauses.specs.Flat.{Well}
+use Rattle.clauses.specs.Flat.{Well, Within}
 
 -- the words are clauses exactly if those from i on are; b says that word i is in a clause
 pub record Form (ws : List ℕ) (i : ℕ) (b : Bool) : Type 0 where
@@ -53,3 +53,16 @@ well-literal b (zero ∷ ws) h (suc k) l f = well-literal false ws h k (omega ar
 well-literal b (suc zero ∷ ws) h k l f = absurd h
 well-literal b (suc (suc x) ∷ ws) h zero l f = omega arith
 well-literal b (suc (suc x) ∷ ws) h (suc k) l f = well-literal true ws h k (omega arith) f
+
+-- and has a variable
+pub well-variable : (ws : List ℕ) (n : ℕ) → Well false ws → Within ws (n + 1) → (k : ℕ) → k < length ws → (getD ws k 0 ≡ 0 → ⊥) → (1 ≤ getD ws k 0 / 2) × (getD ws k 0 / 2 - 1 < n)
+well-variable ws n h w k l f = let two = well-literal false ws h k l f in (omega arith, omega (arith, w k l))
+
+pub literal-well : (b : Bool) (x : ℕ) (xs : List ℕ) → 2 ≤ x → Well true xs → Well b (x ∷ xs)
+literal-well b zero xs l h = absurd (omega arith)
+literal-well b (suc zero) xs l h = absurd (omega arith)
+literal-well b (suc (suc x)) xs l h = h
+
+pub end-well : (b : Bool) (x : ℕ) (xs : List ℕ) → x ≡ 0 → Well false xs → Well b (x ∷ xs)
+end-well b zero xs e h = h
+end-well b (suc x) xs e h = absurd (omega arith)

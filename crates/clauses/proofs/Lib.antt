@@ -2,3 +2,6 @@
 pub mod Truth
 pub mod Forms
 pub mod Parses
+pub mod Alikes
+pub mod Numbers
+pub mod Numbered

@@ -10,7 +10,8 @@ use lib.Dec.{eqb}
 use Rattle.std.proofs.shelf.Tests.{true≢false, eq-eqb, ne-eqb, cases-eq, or-cases, or-left, or-right}
 use Rattle.clauses.specs.Clauses.{Lit, signed, Some, Every, Unmet, flat, flats, namedIn1, namedIn, Vars, All-vars}
 use Rattle.clauses.specs.Flat.{litTruth, Meets, Model, Hopeless, Well, Within, Beyond}
-use Rattle.clauses.proofs.Truth.{even-truth, odd-truth}
+use Rattle.clauses.proofs.Forms.{literal-well}
+use Rattle.clauses.proofs.Truth.{even-truth, odd-truth, literal-meets, meets-literal}
 
 -- the word for a literal
 abbrev code : ℕ → Bool → ℕ
@@ -19,6 +20,9 @@ code v p = cond p (2 * v + 2) (2 * v + 3)
 code-literal : (v : ℕ) (p : Bool) → 2 ≤ code v p
 code-literal v true = omega arith
 code-literal v false = omega arith
+
+code-not-0 : (v : ℕ) (p : Bool) → code v p ≡ 0 → ⊥
+code-not-0 v p e = omega (arith, code-literal v p)
 
 code-variable : (v : ℕ) (p : Bool) → code v p / 2 ≡ v + 1
 code-variable v true = omega arith
@@ -60,14 +64,9 @@ pub well-parsed : (ws : List ℕ) → Well false ws → (cs : List (List Lit)) �
 well-parsed ws h = parse false ws h
 
 -- the words of clauses are well formed
-well-code : (b : Bool) (x : ℕ) (xs : List ℕ) → 2 ≤ x → Well true xs → Well b (x ∷ xs)
-well-code b zero xs l h = absurd (omega arith)
-well-code b (suc zero) xs l h = absurd (omega arith)
-well-code b (suc (suc x)) xs l h = h
-
 well-flat : (b : Bool) (c : List Lit) (cs : List (List Lit)) → Well false (flats cs) → Well b (flat c ++ flats cs)
 well-flat b [] cs h = h
-well-flat b (l ∷ c) cs h = well-code b (code (l .var) (l .pos)) (flat c ++ flats cs) (code-literal (l .var) (l .pos)) (well-flat true c cs h)
+well-flat b (l ∷ c) cs h = literal-well b (code (l .var) (l .pos)) (flat c ++ flats cs) (code-literal (l .var) (l .pos)) (well-flat true c cs h)
 
 pub flats-well : (cs : List (List Lit)) → Well false (flats cs)
 flats-well [] = refl
@@ -77,14 +76,6 @@ pub unwell-parsed : (ws : List ℕ) → (Well false ws → ⊥) → (cs : List (
 unwell-parsed ws h cs e = h (subst (Well false) e (flats-well cs))
 
 -- an assignment meets the clauses exactly if it meets the words
-meets-code : (s : ℕ → Bool) (b : Bool) (x : ℕ) (xs : List ℕ) → 2 ≤ x → Meets s (b || litTruth s x) xs → Meets s b (x ∷ xs)
-meets-code s b zero xs l h = absurd (omega arith)
-meets-code s b (suc x) xs l h = h
-
-code-meets : (s : ℕ → Bool) (b : Bool) (x : ℕ) (xs : List ℕ) → 2 ≤ x → Meets s b (x ∷ xs) → Meets s (b || litTruth s x) xs
-code-meets s b zero xs l h = absurd (omega arith)
-code-meets s b (suc x) xs l h = h
-
 some-meets : (s : ℕ → Bool) (b : Bool) (c : List Lit) (cs : List (List Lit)) → (b ≡ true) ⊎ Some s c → Meets s false (flats cs) → Meets s b (flat c ++ flats cs)
 some-meets s b [] cs (inl e) h = (e, h)
 some-meets s b [] cs (inr e) h = absurd e
@@ -92,7 +83,7 @@ some-meets s b (l ∷ c) cs h r =
     let t = code-truth s (l .var) (l .pos) in
     let met : (b || litTruth s (code (l .var) (l .pos)) ≡ true) ⊎ Some s c =
     ⊎-elim (λ e. inl (or-left b _ e)) (λ o. ⊎-elim (λ e. inl (or-right b _ (t ∙ e))) (λ e. inr e) o) h in
-    meets-code s b (code (l .var) (l .pos)) (flat c ++ flats cs) (code-literal (l .var) (l .pos)) (some-meets s (b || litTruth s (code (l .var) (l .pos))) c cs met r)
+    literal-meets s b (code (l .var) (l .pos)) (flat c ++ flats cs) (code-not-0 (l .var) (l .pos)) (some-meets s (b || litTruth s (code (l .var) (l .pos))) c cs met r)
 
 every-meets : (s : ℕ → Bool) (cs : List (List Lit)) → Every s cs → Meets s false (flats cs)
 every-meets s [] h = tt
@@ -102,7 +93,7 @@ meets-some : (s : ℕ → Bool) (b : Bool) (c : List Lit) (cs : List (List Lit))
 meets-some s b [] cs h = (inl (h .0), h .1)
 meets-some s b (l ∷ c) cs h =
     let t = code-truth s (l .var) (l .pos) in
-    let r = meets-some s (b || litTruth s (code (l .var) (l .pos))) c cs (code-meets s b (code (l .var) (l .pos)) (flat c ++ flats cs) (code-literal (l .var) (l .pos)) h) in
+    let r = meets-some s (b || litTruth s (code (l .var) (l .pos))) c cs (meets-literal s b (code (l .var) (l .pos)) (flat c ++ flats cs) (code-not-0 (l .var) (l .pos)) h) in
     (⊎-elim (λ e. ⊎-elim (λ x. inl x) (λ x. inr (inl (sym t ∙ x))) (or-cases b _ e)) (λ o. inr (inr o)) (r .0), r .1)
 
 meets-every : (s : ℕ → Bool) (cs : List (List Lit)) → Meets s false (flats cs) → Every s cs

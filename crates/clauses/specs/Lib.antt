@@ -1,3 +1,4 @@
 -- Clauses: the definitions that the contracts cite.
 pub mod Clauses
 pub mod Flat
+pub mod Numbering
