@@ -5,3 +5,5 @@ pub mod Parses
 pub mod Alikes
 pub mod Numbers
 pub mod Numbered
+pub mod Values
+pub mod Promise

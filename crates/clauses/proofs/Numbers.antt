@@ -1,9 +1,9 @@
 -- Numbers for the variables that occur, one after another.
 use mathlib.Core.Path.{_≡_, refl, sym, ap, _∙_}
-use mathlib.Core.Logic.{_≢_, _⊎_, inl, inr}
+use mathlib.Core.Logic.{_≢_, inl, inr}
 use mathlib.Core.Bool.{false}
 use mathlib.Core.List.{List}
-use Prim.Native.Nat.{ℕ, _+_, _-_, _*_, _/_, _%_, _^_, _<_, _≤_}
+use Prim.Native.Nat.{ℕ, _+_, _-_, _/_, _^_, _<_, _≤_}
 use native.Mathlib.Omega.{arith}
 use lib.ListN.{length, getD, set}
 use Rattle.std.proofs.shelf.Lists.{getD-set-same, getD-set-other, getD-past}
@@ -82,11 +82,7 @@ numbered-same map v f = record { kept = λ u g. refl; here = f }
 
 -- when all words are renamed
 module _ (ws rs map names : List ℕ) (count : ℕ) (inverse : Inverse map names count) (renames : Renames ws rs map (length ws)) (few : count ≤ length ws) (long : length rs ≡ length ws) where
-  number-of : ℕ → ℕ
-  number-of k = getD map (getD ws k 0 / 2 - 1) 0
-
   renamed-within : Within rs (count + 1)
-  unfolding number-of
   renamed-within k l =
       elim (cases-eq (getD ws k 0) 0) [
         | inl e ↦ omega (arith, renames .ends k (omega arith) e)

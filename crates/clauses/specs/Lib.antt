@@ -2,3 +2,5 @@
 pub mod Clauses
 pub mod Flat
 pub mod Numbering
+pub mod Models
+pub mod Says

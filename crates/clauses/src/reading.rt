@@ -1,6 +1,5 @@
 // Whether a list of numbers can be solved at all: it is clauses, and its variables and the work have room.
 ghost use Prim.Native.Nat.{_+_, _*_, _<_, _≤_};
-ghost use lib.ListN.{length};
 ghost use mathlib.Core.Bool.{false};
 ghost use Rattle.std.specs.Orderings.{When};
 ghost use Rattle.clauses.specs.Flat.{Beyond, Well, Within};
