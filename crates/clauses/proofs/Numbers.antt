@@ -1,5 +1,5 @@
 -- Numbers for the variables that occur, one after another.
-use mathlib.Core.Path.{_≡_, refl, sym, ap, _∙_}
+use mathlib.Core.Path.{_≡_, sym, ap, _∙_}
 use mathlib.Core.Logic.{_≢_, inl, inr}
 use mathlib.Core.Bool.{false}
 use mathlib.Core.List.{List}
@@ -12,7 +12,7 @@ use Rattle.clauses.specs.Flat.{Well, Within}
 use Rattle.clauses.specs.Numbering.{Inverse, Numbered, Renames, Renamed}
 use Rattle.clauses.proofs.Alikes.{Forms, well-alike}
 
-pub zeros-getD : (map : List ℕ) → ((k : ℕ) → k < length map → getD map k 0 ≡ 0) → (v : ℕ) → getD map v 0 ≡ 0
+zeros-getD : (map : List ℕ) → ((k : ℕ) → k < length map → getD map k 0 ≡ 0) → (v : ℕ) → getD map v 0 ≡ 0
 zeros-getD map z v = elim (cases-lt v (length map)) [ inl l ↦ z v l | inr l ↦ getD-past map v 0 l ]
 
 pub inverse-none : (map names : List ℕ) → ((k : ℕ) → k < length map → getD map k 0 ≡ 0) → Inverse map names 0
@@ -76,9 +76,6 @@ module _ (map names : List ℕ) (count v : ℕ) (was : Inverse map names count) 
     kept = λ u f. map-other u (λ e. f (ap (λ j. getD map j 0) e ∙ none));
     here = λ z. omega (arith, map-here);
   }
-
-pub numbered-same : (map : List ℕ) (v : ℕ) → (getD map v 0 ≡ 0 → ⊥) → Numbered map map v
-numbered-same map v f = record { kept = λ u g. refl; here = f }
 
 -- when all words are renamed
 module _ (ws rs map names : List ℕ) (count : ℕ) (inverse : Inverse map names count) (renames : Renames ws rs map (length ws)) (few : count ≤ length ws) (long : length rs ≡ length ws) where
