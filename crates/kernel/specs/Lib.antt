@@ -1,0 +1,3 @@
+-- The kernel of the solver: the definitions that its contracts cite.
+pub mod Trail
+pub mod Scan
