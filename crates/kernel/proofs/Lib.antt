@@ -4,3 +4,8 @@ pub mod Zeros
 pub mod Ranks
 pub mod Trails
 pub mod Scans
+pub mod Looking
+pub mod Arenas
+pub mod Storing
+pub mod Loading
+pub mod Swapping

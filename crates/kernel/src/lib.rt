@@ -1,9 +1,21 @@
 // The proved kernel of the solver: the few steps on which every answer rests. A search that uses
 // them may be guided by anything, since each step tests or requires what it needs.
+mod arena;
 mod plain;
 mod scan;
 mod trail;
 
+pub use arena::HEADER;
+pub use arena::Look;
+pub use arena::drop_clause;
+pub use arena::examine;
+pub use arena::fetch;
+pub use arena::forget;
+pub use arena::is_header;
+pub use arena::load;
+pub use arena::move_down;
+pub use arena::store;
+pub use arena::swap_literals;
 pub use plain::search_plain;
 pub use scan::clashes;
 pub use scan::free_literal;
