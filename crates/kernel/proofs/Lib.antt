@@ -9,3 +9,6 @@ pub mod Arenas
 pub mod Storing
 pub mod Loading
 pub mod Swapping
+pub mod Absorbing
+pub mod Covering
+pub mod Blaming

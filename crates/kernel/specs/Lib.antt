@@ -3,3 +3,4 @@ pub mod Trail
 pub mod Scan
 pub mod Arena
 pub mod Looks
+pub mod Resolve

@@ -2,6 +2,7 @@
 // them may be guided by anything, since each step tests or requires what it needs.
 mod arena;
 mod plain;
+mod resolve;
 mod scan;
 mod trail;
 
@@ -17,6 +18,10 @@ pub use arena::move_down;
 pub use arena::store;
 pub use arena::swap_literals;
 pub use plain::search_plain;
+pub use resolve::Absorbed;
+pub use resolve::absorb;
+pub use resolve::cover;
+pub use resolve::drop_level_zero;
 pub use scan::clashes;
 pub use scan::free_literal;
 pub use trail::decide;
