@@ -12,3 +12,4 @@ pub mod Swapping
 pub mod Absorbing
 pub mod Covering
 pub mod Blaming
+pub mod Hinting

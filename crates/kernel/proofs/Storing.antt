@@ -109,5 +109,7 @@ module _ (ws was : List ℕ) (m low c n : ℕ) (ar : Arena ws was m low (c + 1 +
           rest = λ p b. getD-set-other arena (low + 1 + k) p (getD arena (c + 1 + k) 0) 0 (λ e. omega arith) ∙ mv .rest p (omega arith);
         }
 
-    pub moved : Moving was arena low c n n → Arena ws (set arena low (head + n)) m (low + 1 + n) (c + 1 + n)
-    moved mv = stored ws was arena was m low (c + 1 + n) (c + 1) n ar cl (omega arith) long (mv .storing)
+    pub moved : (header : ℕ) → header ≡ head + n → Moving was arena low c n n → Arena ws (set arena low header) m (low + 1 + n) (c + 1 + n)
+    moved header e mv =
+        subst (λ h. Arena ws (set arena low h) m (low + 1 + n) (c + 1 + n)) (sym e)
+        (stored ws was arena was m low (c + 1 + n) (c + 1) n ar cl (omega arith) long (mv .storing))

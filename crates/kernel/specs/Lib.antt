@@ -4,3 +4,4 @@ pub mod Scan
 pub mod Arena
 pub mod Looks
 pub mod Resolve
+pub mod Hints

@@ -37,6 +37,14 @@ pub fn is_header(arena: &[u32], c: usize) -> bool
     c < arena.len() && arena[c] >= HEADER
 }
 
+// How many literals the clause whose header stands at c has.
+pub fn clause_length(arena: &[u32], c: usize) -> usize
+    requires { ⌜ Header (now arena) c ⌝ }
+    ensures { λ r. ⌜ r ≡ size (now (arena .entry)) c ⌝ }
+{
+    (arena[c] - HEADER) as usize
+}
+
 // Looks at the clause whose header stands at c.
 pub fn examine(
     clauses: &[u32],
@@ -188,12 +196,13 @@ pub fn move_down(clauses: &[u32], m: usize, arena: &mut [u32], low: usize, c: us
     ensures low { λ r. ⌜ r ≡ low + 1 + size (now (arena .entry)) c ⌝ }
     ensures header { λ _. ⌜ getD (now (arena .exit)) low 0 ≡ getD (now (arena .entry)) c 0 ⌝ }
 {
-    let n = (arena[c] - HEADER) as usize;
+    let header = arena[c];
+    let n = (header - HEADER) as usize;
     arena[c] = 0;
     for k in 0..n {
         arena[low + 1 + k] = arena[c + 1 + k];
     }
-    arena[low] = HEADER + n as u32;
+    arena[low] = header;
     low + 1 + n
 }
 

@@ -1,6 +1,7 @@
 // The proved kernel of the solver: the few steps on which every answer rests. A search that uses
 // them may be guided by anything, since each step tests or requires what it needs.
 mod arena;
+mod hints;
 mod plain;
 mod resolve;
 mod scan;
@@ -8,6 +9,7 @@ mod trail;
 
 pub use arena::HEADER;
 pub use arena::Look;
+pub use arena::clause_length;
 pub use arena::drop_clause;
 pub use arena::examine;
 pub use arena::fetch;
@@ -17,6 +19,7 @@ pub use arena::load;
 pub use arena::move_down;
 pub use arena::store;
 pub use arena::swap_literals;
+pub use hints::by_hints;
 pub use plain::search_plain;
 pub use resolve::Absorbed;
 pub use resolve::absorb;

@@ -1,10 +1,11 @@
 use mathlib.Core.Path.{_≡_, refl, subst}
 use Prim.Native.Nat.{ℕ, _+_, _≤_}
 use native.Mathlib.Omega.{arith}
-use lib.ListN.{length, set, length-set}
+use lib.ListN.{length, getD, set, length-set}
+use lib.Seq.{getD-set-same}
 use Rattle.kernel.specs.Arena.{Arena, Clause, size}
 use Rattle.kernel.proofs.Arenas.{dropped}
-use Rattle.kernel.proofs.Storing.{Moving, moving-start, moving-more, moved, dropped-clause, stored-header}
+use Rattle.kernel.proofs.Storing.{Moving, moving-start, moving-more, moved, dropped-clause}
 use Rattle.kernel.proofs.arena.move_down.Needs as need
 
 pub loop-k-holds : need.loop-k-holds
@@ -20,11 +21,11 @@ returns c =
     let all : c .loop-k .k ≡ n = omega arith in
     let order = c .pre .arena .order in
     let below = c .pre .header .below in
+    let high = c .pre .header .high in
     let long = length-set (c .args .arena .now) (c .args .c) 0 in
-    let header = stored-header (c .loop-k .arena) (c .args .low) n (omega arith) in
     record {
-      arena = moved _ _ _ _ _ _ (dropped _ _ _ _ _ (c .pre .arena) (c .pre .header)) _ order (dropped-clause _ _ _ _ _ (c .pre .arena) (c .pre .header)) (c .loop-k .kept .arena)
+      arena = moved _ _ _ _ _ _ (dropped _ _ _ _ _ (c .pre .arena) (c .pre .header)) _ order (dropped-clause _ _ _ _ _ (c .pre .arena) (c .pre .header)) (c .loop-k .kept .arena) _ (omega arith)
           (subst (Moving (set (c .args .arena .now) (c .args .c) 0) (c .loop-k .arena) (c .args .low) (c .args .c) n) all (c .loop-k .inv));
       low = refl;
-      header = omega (arith, header, c .pre .header .high);
+      header = getD-set-same (c .loop-k .arena) (c .args .low) (getD (c .args .arena .now) (c .args .c) 0) 0 (omega arith);
     }
