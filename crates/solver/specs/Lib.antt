@@ -1,0 +1,2 @@
+-- What the parts of the search promise.
+pub mod Steps
