@@ -5,7 +5,14 @@ use Prim.Native.Nat.{ℕ, _+_, _-_, _*_, _^_, _<_, _≤_}
 use lib.ListN.{length, getD, take}
 use Rattle.std.specs.declared.option.Option.{Option}
 use Rattle.std.specs.declared.option.Option.the-variants.{Some, None}
-use Rattle.kernel.specs.Trail.{Went, Clash}
+use Rattle.clauses.specs.Flat.{Hopeless}
+use Rattle.kernel.specs.Trail.{State, Went, Clash, rank}
+use Rattle.kernel.specs.Arena.{Arena, Header}
+use Rattle.kernel.specs.Scan.{Solution}
+use Rattle.solver.specs.declared.learn.Lesson.{Lesson}
+use Rattle.solver.specs.declared.turn.Progress.{Progress}
+use Rattle.solver.specs.declared.turn.Turn.{Turn}
+use Rattle.solver.specs.declared.turn.Turn.the-variants.{Never, Met, Again}
 
 -- a conflict that is reported means that no model agrees with the values
 abbrev pub Conflicts : List ℕ → List ℕ → Option ℕ → Type 0
@@ -16,3 +23,30 @@ Conflicts ws vs (Some c) = Clash ws vs
 pub record Ran (ws vs ts ks ks′ : List ℕ) (n m : ℕ) (conflict : Option ℕ) : Type 0 where
   pub went : Went ws vs ts ks ks′ n m
   pub conflicts : Conflicts ws vs conflict
+
+-- the state of the search with the arena, and no mark set
+pub record Whole (ws vs ts ks seen words : List ℕ) (n low : ℕ) : Type 0 where
+  pub state : State ws vs ts ks n
+  pub arena : Arena ws words (length vs) low (length words)
+  pub long : length seen ≡ length vs
+  pub clean : (k : ℕ) → k < length vs → getD seen k 0 ≡ 0
+
+-- a clause was learned, and stands at the old end of the clauses; or none was
+abbrev pub Learned : List ℕ → List ℕ → List ℕ → List ℕ → List ℕ → List ℕ → ℕ → ℕ → Option Lesson → Type 0
+Learned ws vs ts ks seen arena n low None = Whole ws vs ts ks seen arena n low
+Learned ws vs ts ks seen arena n low (Some l) = Whole ws vs ts ks seen arena n (l .low) × Header arena low × (l .keep ≤ n)
+
+-- What is left to do: how often the search may still go back, and then how far the trail, read as a
+-- number to the base 3, is from the largest. It falls with each turn.
+abbrev pub left : ℕ → List ℕ → ℕ → ℕ → ℕ
+left m ks n b = b * 3 ^ m + (3 ^ m - rank m (take n ks))
+
+pub record On-with (ws vs ts ks ks′ seen arena : List ℕ) (n b : ℕ) (p : Progress) : Type 0 where
+  pub whole : Whole ws vs ts ks′ seen arena (p .n) (p .low)
+  pub less : left (length vs) ks′ (p .n) (p .budget) < left (length vs) ks n b
+
+-- what a turn of the search comes to
+abbrev pub Turns : List ℕ → List ℕ → List ℕ → List ℕ → List ℕ → List ℕ → List ℕ → ℕ → ℕ → Turn → Type 0
+Turns ws vs ts ks ks′ seen arena n b Never = Hopeless ws
+Turns ws vs ts ks ks′ seen arena n b Met = Solution ws vs
+Turns ws vs ts ks ks′ seen arena n b (Again p) = On-with ws vs ts ks ks′ seen arena n b p

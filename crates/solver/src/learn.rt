@@ -1,0 +1,6 @@
+// Learning.
+#[derive(Clone, Copy)]
+pub(crate) struct Lesson {
+    pub(crate) low: usize,
+    pub(crate) keep: usize,
+}
