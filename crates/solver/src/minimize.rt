@@ -61,12 +61,11 @@ pub(crate) fn minimize(
     requires state { ⌜ State (now clauses) (now values) (now trail) (now kinds) n ⌝ }
     requires arena { ⌜ Arena (now clauses) (now arena) (length (now values)) low (length (now arena)) ⌝ }
     requires blamed { ⌜ Blamed (now clauses) (now values) (now seen) start ⌝ }
-    requires top { ⌜ top ≤ n ⌝ }
     ensures { λ r. ⌜ Cases r (Unit {0}) (λ s. Blamed (now (clauses .entry)) (now (values .entry)) (now (seen .exit)) (s .marks)) ⌝ }
 {
     let mut marks = start;
     let mut kept: usize = 1;
-    let mut p = top;
+    let mut p = top.min(n);
     while p > first && kept < marks {
         p -= 1;
         let x = Literal(trail[p]);

@@ -26,7 +26,7 @@ pub(crate) struct Run {
 }
 
 // The word for the clause at c as a reason: never 0, which is a decision's.
-fn reason(c: usize) -> u32 {
+pub(crate) fn reason(c: usize) -> u32 {
     if c < 0xffff_ffff { c as u32 + 1 } else { 1 }
 }
 
