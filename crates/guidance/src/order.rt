@@ -25,7 +25,13 @@ impl<'a> Order<'a> {
     pub fn new(activities: &'a mut [u32], heap: &'a mut [u32], slots: &'a mut [u32]) -> Order<'a> {
         activities.fill(0);
         slots.fill(0);
-        Order { activities, heap, slots, len: 0, increment: 16 }
+        Order {
+            activities,
+            heap,
+            slots,
+            len: 0,
+            increment: 16,
+        }
     }
 }
 
@@ -71,7 +77,9 @@ impl Order<'_> {
             return i;
         }
         let right = left + 1;
-        if right < self.len && self.activity(get(self.heap, right)) > self.activity(get(self.heap, left)) {
+        if right < self.len
+            && self.activity(get(self.heap, right)) > self.activity(get(self.heap, left))
+        {
             return right;
         }
         left
@@ -95,7 +103,10 @@ impl Order<'_> {
 
     // Puts a variable into the heap, if it isn't there.
     pub fn insert(&mut self, v: Variable) {
-        if v.index() < self.slots.len() && self.slots[v.index()] == 0 && self.len < self.heap.len() {
+        if v.index() < self.slots.len()
+            && self.slots[v.index()] == 0
+            && self.len < self.heap.len()
+        {
             let last = self.len;
             self.len = last + 1;
             self.place(last, v.0);

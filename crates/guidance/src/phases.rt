@@ -24,7 +24,11 @@ impl Phases<'_> {
     // The literal of a variable to decide: the one that it was last, at first its negation.
     pub fn literal(&self, v: Variable) -> Literal {
         let x = get(self.saved, v.index());
-        if x == 0 && v.0 < 0x7fff_ffff { Literal(2 * v.0 + 1) } else { Literal(x) }
+        if x == 0 && v.0 < 0x7fff_ffff {
+            Literal(2 * v.0 + 1)
+        } else {
+            Literal(x)
+        }
     }
 
     pub fn save(&mut self, x: Literal) {

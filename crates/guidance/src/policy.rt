@@ -16,7 +16,14 @@ pub struct Policy {
 
 impl Policy {
     pub fn new() -> Policy {
-        Policy { conflicts: 0, run: 1, length: 1, learned: 0, most: 1000, full: false }
+        Policy {
+            conflicts: 0,
+            run: 1,
+            length: 1,
+            learned: 0,
+            most: 1000,
+            full: false,
+        }
     }
 
     // A conflict was met, and a clause learned from it or not for want of room.

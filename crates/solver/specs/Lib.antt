@@ -1,2 +1,3 @@
 -- What the parts of the search promise.
 pub mod Steps
+pub mod Solving

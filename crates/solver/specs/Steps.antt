@@ -50,3 +50,9 @@ abbrev pub Turns : List ℕ → List ℕ → List ℕ → List ℕ → List ℕ 
 Turns ws vs ts ks ks′ seen arena n b Never = Hopeless ws
 Turns ws vs ts ks ks′ seen arena n b Met = Solution ws vs
 Turns ws vs ts ks ks′ seen arena n b (Again p) = On-with ws vs ts ks ks′ seen arena n b p
+
+-- what the search begins with
+abbrev pub Begins : List ℕ → List ℕ → List ℕ → List ℕ → List ℕ → List ℕ → Turn → Type 0
+Begins ws vs ts ks seen words Never = Hopeless ws
+Begins ws vs ts ks seen words Met = Solution ws vs
+Begins ws vs ts ks seen words (Again p) = Whole ws vs ts ks seen words (p .n) (p .low)

@@ -10,7 +10,6 @@ ghost use Rattle.std.specs.Options.{Cases};
 ghost use Rattle.kernel.specs.Arena.{Header};
 ghost use Rattle.kernel.specs.Resolve.{Blamed};
 ghost use Rattle.solver.specs.Steps.{Whole};
-
 use crate::guide::Guide;
 use clauses::Literal;
 use kernel::HEADER;
@@ -58,7 +57,19 @@ pub(crate) fn find_blame(
     ensures { λ r. ⌜ Cases r (Unit {0}) (λ b. Blamed (now (clauses .entry)) (now (values .entry)) (now (seen .exit)) (b .marks)) ⌝ }
 {
     bump_clause(g, seen, arena, c);
-    let Some(first) = absorb(clauses, values, arena, low, arena.len(), seen, 0, c, Literal(0), g.phases.places(), level) else {
+    let Some(first) = absorb(
+        clauses,
+        values,
+        arena,
+        low,
+        arena.len(),
+        seen,
+        0,
+        c,
+        Literal(0),
+        g.phases.places(),
+        level,
+    ) else {
         return None;
     };
     let mut marks = first.marks;
@@ -77,7 +88,19 @@ pub(crate) fn find_blame(
                 return None;
             }
             bump_clause(g, seen, arena, r);
-            let Some(more) = absorb(clauses, values, arena, low, arena.len(), seen, marks, r, x, g.phases.places(), level) else {
+            let Some(more) = absorb(
+                clauses,
+                values,
+                arena,
+                low,
+                arena.len(),
+                seen,
+                marks,
+                r,
+                x,
+                g.phases.places(),
+                level,
+            ) else {
                 return None;
             };
             marks = more.marks;

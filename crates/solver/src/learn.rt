@@ -6,7 +6,6 @@ ghost use Rattle.kernel.specs.Arena.{Arena, Header};
 ghost use Rattle.kernel.specs.Resolve.{Blamed};
 ghost use Rattle.kernel.specs.Trail.{State};
 ghost use Rattle.solver.specs.Steps.{Learned, Whole};
-
 use crate::analyze::find_blame;
 use crate::guide::Guide;
 use crate::guide::release;
@@ -41,10 +40,21 @@ struct Collected {
 }
 
 // Writes the negations of the marked literals, the last on the trail first.
-fn collect(seen: &[u32], trail: &[u32], kinds: &[u32], n: usize, marks: usize, lits: &mut [u32]) -> Collected
+fn collect(
+    seen: &[u32],
+    trail: &[u32],
+    kinds: &[u32],
+    n: usize,
+    marks: usize,
+    lits: &mut [u32],
+) -> Collected
     ensures { λ r. ⌜ r .count ≤ length (now (lits .exit)) ⌝ }
 {
-    let mut found = Collected { count: 0, levels: 0, second: 0 };
+    let mut found = Collected {
+        count: 0,
+        levels: 0,
+        second: 0,
+    };
     let mut fresh = true;
     for p in (0..n).rev() {
         if found.count >= marks || found.count >= lits.len() || p >= trail.len() {
@@ -105,13 +115,48 @@ fn analyze(
         return None;
     }
     let first = first_decision(kinds, n);
-    let Some(blame) = find_blame(clauses, values, trail, kinds, n, level - 1, arena, low, seen, g, c) else {
+    let Some(blame) = find_blame(
+        clauses,
+        values,
+        trail,
+        kinds,
+        n,
+        level - 1,
+        arena,
+        low,
+        seen,
+        g,
+        c,
+    ) else {
         return None;
     };
-    let Some(smaller) = minimize(clauses, values, trail, kinds, n, blame.place, first, arena, low, seen, blame.marks, g) else {
+    let Some(smaller) = minimize(
+        clauses,
+        values,
+        trail,
+        kinds,
+        n,
+        blame.place,
+        first,
+        arena,
+        low,
+        seen,
+        blame.marks,
+        g,
+    ) else {
         return None;
     };
-    Some(drop_zero_marks(clauses, values, trail, kinds, n, first, seen, smaller.marks, smaller.kept))
+    Some(drop_zero_marks(
+        clauses,
+        values,
+        trail,
+        kinds,
+        n,
+        first,
+        seen,
+        smaller.marks,
+        smaller.kept,
+    ))
 }
 
 // Learns a clause from the clause at c, which is false; none if nothing was learned or there is no

@@ -1,4 +1,8 @@
 // The solver: a list of clauses is met, with a model, or never met.
+//
+// A module a technique: propagation, conflict analysis and its minimization, learning, decisions,
+// starting over, forgetting, and the search that uses them. What an answer rests on are the kernel's
+// steps; what guides the search has no invariant, and is tested where it is used.
 mod analyze;
 mod decide;
 mod guide;
@@ -7,4 +11,8 @@ mod minimize;
 mod propagate;
 mod reduce;
 mod restart;
+mod search;
+mod solve;
 mod turn;
+
+pub use solve::solve;

@@ -6,7 +6,6 @@ ghost use Rattle.std.specs.Options.{Cases};
 ghost use Rattle.kernel.specs.Arena.{Arena};
 ghost use Rattle.kernel.specs.Resolve.{Blamed};
 ghost use Rattle.kernel.specs.Trail.{NoDecision, State};
-
 use crate::guide::Guide;
 use clauses::Literal;
 use kernel::HEADER;
@@ -22,7 +21,14 @@ pub(crate) struct Smaller {
 }
 
 // Whether the clause at r has only marked literals besides x, or ones before the first decision.
-fn is_redundant(g: &Guide, seen: &[u32], arena: &[u32], r: usize, x: Literal, first: usize) -> bool {
+fn is_redundant(
+    g: &Guide,
+    seen: &[u32],
+    arena: &[u32],
+    r: usize,
+    x: Literal,
+    first: usize,
+) -> bool {
     let places = g.phases.places();
     for p in r..arena.len() {
         let y = arena[p];
@@ -71,9 +77,25 @@ pub(crate) fn minimize(
         let x = Literal(trail[p]);
         if seen[x.variable().index()] != 0 {
             let kind = kinds[p];
-            let r = if kind == 0 { arena.len() } else { (kind - 1) as usize };
+            let r = if kind == 0 {
+                arena.len()
+            } else {
+                (kind - 1) as usize
+            };
             if is_header(arena, r) && is_redundant(g, seen, arena, r, x, first) {
-                let Some(more) = absorb(clauses, values, arena, low, arena.len(), seen, marks, r, x, g.phases.places(), n) else {
+                let Some(more) = absorb(
+                    clauses,
+                    values,
+                    arena,
+                    low,
+                    arena.len(),
+                    seen,
+                    marks,
+                    r,
+                    x,
+                    g.phases.places(),
+                    n,
+                ) else {
                     return None;
                 };
                 marks = more.marks;

@@ -10,7 +10,6 @@ ghost use lib.ListN.{length};
 ghost use Rattle.kernel.specs.Arena.{Arena};
 ghost use Rattle.kernel.specs.Trail.{State};
 ghost use Rattle.solver.specs.Steps.{Ran};
-
 use crate::guide::Guide;
 use clauses::Literal;
 use kernel::Look;
@@ -54,9 +53,15 @@ fn visit(
         Look::Unit(x) => {
             imply(clauses, values, trail, kinds, n, x, reason(c));
             g.phases.note_place(x, n);
-            Run { n: n + 1, conflict: None }
+            Run {
+                n: n + 1,
+                conflict: None,
+            }
         }
-        Look::Conflict => Run { n, conflict: Some(c) },
+        Look::Conflict => Run {
+            n,
+            conflict: Some(c),
+        },
     }
 }
 

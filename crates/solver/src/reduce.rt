@@ -7,7 +7,6 @@
 ghost use Prim.Native.Nat.{_+_, _<_, _≤_};
 ghost use lib.ListN.{length};
 ghost use Rattle.kernel.specs.Arena.{Arena};
-
 use crate::guide::Guide;
 use kernel::clause_length;
 use kernel::drop_clause;
@@ -86,7 +85,13 @@ pub(crate) fn attach_all(arena: &[u32], g: &mut Guide) {
 }
 
 // Forgets about half of the learned clauses, and gives where the clauses then end.
-pub(crate) fn reduce(clauses: &[u32], m: usize, arena: &mut [u32], low: usize, g: &mut Guide) -> usize
+pub(crate) fn reduce(
+    clauses: &[u32],
+    m: usize,
+    arena: &mut [u32],
+    low: usize,
+    g: &mut Guide,
+) -> usize
     requires { ⌜ Arena (now clauses) (now arena) m low (length (now arena)) ⌝ }
     ensures { λ r. ⌜ Arena (now (clauses .entry)) (now (arena .exit)) m r (length (now (arena .exit))) ⌝ }
 {

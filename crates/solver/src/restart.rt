@@ -2,7 +2,6 @@
 ghost use Prim.Native.Nat.{_≤_};
 ghost use lib.ListN.{length};
 ghost use Rattle.kernel.specs.Trail.{State};
-
 use crate::guide::Guide;
 use crate::guide::release;
 use kernel::first_decision;

@@ -13,4 +13,5 @@ absorb-requires c κs =
       own = own-values _ _ _ (w .state .trail);
       header = c .pre .header;
       marked = record { long = w .long; counted = omega (arith, zeros-all (c .args .seen .now) (λ k l. w .clean k (omega arith))) };
-      due = λ f. absurd (f refl) }
+      due = λ f. absurd (f refl);
+    }
