@@ -13,7 +13,7 @@ extern "C" {
     ) -> u32;
 }
 
-/// So many words are lent freely, if that is of use.
+/// Eight times the least work memory is lent, as long as that is no more words than these.
 const MUCH: usize = 1 << 26;
 
 /// What the library says of clauses.
@@ -103,7 +103,7 @@ mod tests {
     use crate::check::meets;
     use crate::dpll;
 
-    /// Numbers that are the same in each run, by Marsaglia's xorshift.
+    /// Numbers that are the same in each run, by xorshift.
     struct Random(u64);
 
     impl Random {
