@@ -4,6 +4,7 @@
 // starting over, forgetting, and the search that uses them. What an answer rests on are the kernel's
 // steps; what guides the search has no invariant, and is tested where it is used.
 mod analyze;
+mod answer;
 mod decide;
 mod guide;
 mod learn;
@@ -12,7 +13,6 @@ mod propagate;
 mod reduce;
 mod restart;
 mod search;
-mod solve;
 mod turn;
 
-pub use solve::solve;
+pub use answer::solve;

@@ -1,5 +1,5 @@
 use native.Mathlib.Omega.{arith}
-use Rattle.solver.proofs.solve.search_learning.Needs as need
+use Rattle.solver.proofs.answer.search_learning.Needs as need
 
 pub search-requires : need.search-requires
 search-requires c κs =

@@ -6,7 +6,7 @@ use lib.ListN.{length, getD}
 use Rattle.std.proofs.shelf.Lists.{getD-past}
 use Rattle.std.proofs.shelf.Tests.{cases-lt}
 use Rattle.solver.proofs.Solutions.{plain-model}
-use Rattle.solver.proofs.solve.solve_plain.Needs as need
+use Rattle.solver.proofs.answer.solve_plain.Needs as need
 
 pub write-model-requires : need.write-model-requires
 write-model-requires c κs =

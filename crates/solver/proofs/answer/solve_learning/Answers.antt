@@ -2,7 +2,7 @@ use mathlib.Core.Path.{refl}
 use Rattle.clauses.proofs.Numbered.{renamed-hopeless}
 use Rattle.clauses.proofs.Values.{written-model}
 use Rattle.solver.proofs.Solutions.{solution-model}
-use Rattle.solver.proofs.solve.solve_learning.Needs as need
+use Rattle.solver.proofs.answer.solve_learning.Needs as need
 
 pub returns-then-search-learning : need.returns-then-search-learning
 returns-then-search-learning c =

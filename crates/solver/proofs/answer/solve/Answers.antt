@@ -1,7 +1,7 @@
 use mathlib.Core.Path.{refl}
 use native.Mathlib.Omega.{arith}
 use Rattle.clauses.proofs.Promise.{met, never, no-clauses, small-work, small-model}
-use Rattle.solver.proofs.solve.solve.Needs as need
+use Rattle.solver.proofs.answer.solve.Needs as need
 
 pub returns-then-not-enough-room : need.returns-then-not-enough-room
 returns-then-not-enough-room c = small-work _ _ _ _ (c .if-not-enough-room .ensures tt) refl

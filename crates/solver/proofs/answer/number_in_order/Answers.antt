@@ -4,7 +4,7 @@ use mathlib.Core.Logic.{inl, inr}
 use lib.ListN.{getD, set}
 use Rattle.std.proofs.shelf.Lists.{getD-set-same, getD-set-other}
 use Rattle.std.proofs.shelf.Tests.{cases-eq}
-use Rattle.solver.proofs.solve.number_in_order.Needs as need
+use Rattle.solver.proofs.answer.number_in_order.Needs as need
 
 pub loop-v-again : need.loop-v-again
 loop-v-again c =
