@@ -35,9 +35,9 @@ fn count_from(places: &[u32], h: usize, from: usize) -> usize
     }
 }
 
-// Marks the variables of a clause in the place of x, a marked value that the clause has; or, with no
-// mark set and x no literal (0), the variables of a clause that is false. None where another literal
-// than x is not false, and the marks are then of no use.
+// Marks the variables of the clause at c in the place of x, a marked value that the clause has; or,
+// where x is no literal (0), the variables of a clause that is false. None where another literal than x
+// is not false: the marks are then of no use, and are to be cleared. `places` and `from` are hints.
 pub fn absorb(
     clauses: &[u32],
     values: &[u32],

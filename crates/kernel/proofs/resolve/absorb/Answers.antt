@@ -1,8 +1,8 @@
 use mathlib.Core.Path.{_≡_, subst}
-use Prim.Native.Nat.{ℕ, _+_, _≤_}
+use Prim.Native.Nat.{_≤_}
 use native.Mathlib.Omega.{arith}
 use Rattle.kernel.specs.Arena.{Clause, size}
-use Rattle.kernel.proofs.Absorbing.{Absorbing, absorbed-skip, absorbed-seen, absorbed-mark, marks-left, absorbed-core, absorbed-as}
+use Rattle.kernel.proofs.Absorbing.{absorbed-skip, absorbed-seen, absorbed-mark, marks-left, absorbed-core, absorbed-as}
 use Rattle.kernel.proofs.resolve.absorb.Needs as need
 use Rattle.kernel.proofs.resolve.absorb.Needs.{then-y-x·else-not-is-false·else-y-x-2·then-seen-h-eq0, then-y-x·else-not-is-false·else-y-x-2·else-seen-h-eq0, else-y-x}
 

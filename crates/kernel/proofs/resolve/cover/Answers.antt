@@ -1,12 +1,9 @@
-use mathlib.Core.Path.{_≡_, sym, subst}
-use Prim.Native.Nat.{_+_}
 use native.Mathlib.Omega.{arith}
 use lib.ListN.{getD, length}
-use borrow.Author.Tests.{true-eqb}
 use borrow.Author.Needs.{needs}
 use Rattle.kernel.specs.Arena.{Word}
 use Rattle.kernel.specs.Trail.{False}
-use Rattle.kernel.proofs.Covering.{Covering, cover-skip, cover-left, cover-clear, covered, covering-as}
+use Rattle.kernel.proofs.Covering.{cover-skip, cover-left, cover-clear, covered, covering-as}
 use Rattle.kernel.proofs.resolve.cover.Needs as need
 use Rattle.kernel.proofs.resolve.cover.Needs.{then-seen-h-ne0, else-seen-h-ne0}
 
