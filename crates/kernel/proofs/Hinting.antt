@@ -3,7 +3,7 @@ use mathlib.Core.Path.{_≡_, refl, sym, ap, subst, _∙_}
 use mathlib.Core.Logic.{⊎-elim}
 use mathlib.Core.Bool.{Bool, true, false}
 use mathlib.Core.List.{List}
-use Prim.Native.Nat.{ℕ, _+_, _/_, _<_, _≤_}
+use Prim.Native.Nat.{ℕ, _+_, _/_, _<_}
 use native.Mathlib.Omega.{arith}
 use native.Mathlib.Nat.{zero-add}
 use lib.ListN.{length, getD, set, length-set}
@@ -33,7 +33,14 @@ own-set values h x half own k l f =
     (λ ne. ap (λ (y : ℕ). y / 2) (getD-set-other values h k x 0 ne) ∙ own k (omega arith) (λ z. f (getD-set-other values h k x 0 ne ∙ z)))
     (cases-eq k h)
 
--- one literal more is denied, by x
+-- no literal is denied as yet; and one more is, by x
+pub denied-none : (values lits : List ℕ) → ((k : ℕ) → k < length values → getD values k 0 ≡ 0) → Denied values lits 0
+denied-none values lits clean = record {
+  words = λ j l. absurd (omega arith);
+  own = λ k l f. absurd (f (clean k l));
+  agrees = λ s no k l f. absurd (f (clean k l));
+}
+
 pub denied-more : (values lits : List ℕ) (i x : ℕ) → Word (length values) (getD lits i 0) → getD lits i 0 / 2 ≡ x / 2 → (getD lits i 0 ≡ x → ⊥) → Denied values lits i → Denied (set values (getD lits i 0 / 2) x) lits (i + 1)
 denied-more values lits i x w half ne was =
     let long = length-set values (getD lits i 0 / 2) x in

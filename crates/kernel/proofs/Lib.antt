@@ -13,3 +13,4 @@ pub mod Absorbing
 pub mod Covering
 pub mod Blaming
 pub mod Hinting
+pub mod Budgets

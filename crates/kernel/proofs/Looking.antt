@@ -1,5 +1,5 @@
 -- A clause of which all literals, or all but one, are false.
-use mathlib.Core.Path.{_≡_, sym, ap, _∙_}
+use mathlib.Core.Path.{_≡_, sym, ap, subst, _∙_}
 use mathlib.Core.Logic.{⊎-elim}
 use mathlib.Core.Bool.{Bool, true, false}
 use mathlib.Core.List.{List}
@@ -21,6 +21,35 @@ pub record Looked (values arena : List ℕ) (i k u : ℕ) : Type 0 where
   pub each : (j : ℕ) → j < k → (getD arena (i + j) 0 ≡ u → ⊥) → False values (getD arena (i + j) 0)
   pub unit : (u ≡ 0 → ⊥) → Free values u
 
+-- one literal more: it is u, it is false, or it is the first that is free
+module _ (values arena : List ℕ) (i k u : ℕ) (was : Looked values arena i k u) where
+  looked-as : (v : ℕ) → v ≡ u → Looked values arena i (k + 1) u → Looked values arena i (k + 1) v
+  looked-as v e l = subst (Looked values arena i (k + 1)) (sym e) l
+
+  pub looked-again : (v : ℕ) → v ≡ u → getD arena (i + k) 0 ≡ u → Looked values arena i (k + 1) v
+  looked-again v e same = looked-as v e (record {
+    each = λ j l ne. ⊎-elim (λ q. absurd (ne (ap (λ (p : ℕ). getD arena (i + p) 0) q ∙ same))) (λ nq. was .each j (omega arith) ne) (cases-eq j k);
+    unit = was .unit;
+  })
+
+  pub looked-false : (v : ℕ) → v ≡ u → False values (getD arena (i + k) 0) → Looked values arena i (k + 1) v
+  looked-false v e f = looked-as v e (record {
+    each = λ j l ne. ⊎-elim (λ q. subst (λ p. False values (getD arena (i + p) 0)) (sym q) f) (λ nq. was .each j (omega arith) ne) (cases-eq j k);
+    unit = was .unit;
+  })
+
+pub looked-free : (ws values arena : List ℕ) (i n k u v : ℕ) → Clause ws arena (length values) i n → k < n → u ≡ 0 → v ≡ getD arena (i + k) 0 → getD values (getD arena (i + k) 0 / 2) 0 ≡ 0 → Looked values arena i k u → Looked values arena i (k + 1) v
+looked-free ws values arena i n k u v cl b z e free was =
+    let w = cl .words k b in
+    subst (Looked values arena i (k + 1)) (sym e) (record {
+      each = λ j l ne. ⊎-elim
+          (λ q. absurd (ne (ap (λ (p : ℕ). getD arena (i + p) 0) q)))
+          (λ nq. was .each j (omega arith) (λ q. omega (arith, cl .words j (omega arith) .lit)))
+          (cases-eq j k);
+      unit = λ _. record { fits = w .half; free = free; lit = w .lit };
+    })
+
+-- the whole clause
 module _ (ws values arena : List ℕ) (i n u : ℕ) (own : Own values) (cl : Clause ws arena (length values) i n) (l : Looked values arena i n u) where
   looked-holds : (s : ℕ → Bool) → Agrees s values → Model s ws → (u ≡ 0 → ⊥) × (litTruth s u ≡ true)
   looked-holds s a m =

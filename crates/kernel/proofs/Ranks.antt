@@ -1,15 +1,14 @@
 -- The number of a trail grows when a literal is set, and when a decision turns to an implied literal.
-use mathlib.Core.Path.{_≡_, refl, sym, ap, subst, _∙_}
+use mathlib.Core.Path.{_≡_, sym, ap, _∙_}
 use mathlib.Core.Logic.{_⊎_, inl, inr, ⊎-elim}
 use mathlib.Core.Bool.{cond}
 use mathlib.Core.List.{List, [], _∷_, _++_}
-use Prim.Native.Nat.{ℕ, zero, suc, _+_, _-_, _*_, _/_, _%_, _^_, _<_, _≤_}
+use Prim.Native.Nat.{ℕ, zero, suc, _+_, _*_, _^_, _<_, _≤_}
 use native.Mathlib.Nat.{pow-succ', one-mul, two-mul}
 use native.Mathlib.Omega.{arith}
 use lib.ListN.{length, getD, take, drop, set}
-use lib.Dec.{eqb}
 use Rattle.std.proofs.shelf.Tests.{eq-eqb, ne-eqb, cases-eq}
-use Rattle.std.proofs.shelf.Lists.{take-more, take-more-set, take-set-le, drop-more, take-append-drop, take-take, length-take-le, getD-take}
+use Rattle.std.proofs.shelf.Lists.{take-more-set, drop-more, take-append-drop, take-take, length-take-le, getD-take}
 use Rattle.kernel.specs.Trail.{digit, rank}
 
 digit-cases : (k : ℕ) → (digit k ≡ 1) ⊎ (digit k ≡ 2)

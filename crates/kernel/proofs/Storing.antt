@@ -7,8 +7,8 @@ use native.Mathlib.Omega.{arith}
 use lib.ListN.{length, getD, set, length-set}
 use lib.Seq.{getD-set-same, getD-set-other}
 use Rattle.std.proofs.shelf.Tests.{cases-eq, cases-lt}
-use Rattle.kernel.specs.Arena.{head, size, Word, Clause, Headed, Arena, Header}
-use Rattle.kernel.proofs.Arenas.{clause-moved, gap-clear, dropped}
+use Rattle.kernel.specs.Arena.{head, size, Clause, Headed, Arena, Header}
+use Rattle.kernel.proofs.Arenas.{clause-moved, gap-clear}
 
 -- the arena is as it was outside the gap, has the first k words of src from at on in it, and no header there
 pub record Storing (was arena src : List ℕ) (low high at k : ℕ) : Type 0 where

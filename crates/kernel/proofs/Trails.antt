@@ -1,7 +1,7 @@
 -- What setting and freeing a literal keep of the trail, and what a clash says.
-use mathlib.Core.Path.{_≡_, refl, sym, ap, subst, _∙_}
+use mathlib.Core.Path.{_≡_, sym, ap, subst, _∙_}
 use mathlib.Core.Logic.{_≢_, ⊎-elim}
-use mathlib.Core.Bool.{Bool, true, false}
+use mathlib.Core.Bool.{Bool}
 use mathlib.Core.List.{List}
 use Prim.Native.Nat.{ℕ, zero, suc, _+_, _-_, _/_, _^_, _<_, _≤_}
 use native.Mathlib.Omega.{arith}
@@ -9,7 +9,7 @@ use lib.ListN.{length, getD, set, take, length-set}
 use lib.Seq.{getD-set-same, getD-set-other}
 use Rattle.std.proofs.shelf.Tests.{cases-eq, cases-lt, cases-bool}
 use Rattle.clauses.specs.Flat.{litTruth, Model, Within, Hopeless}
-use Rattle.kernel.specs.Trail.{Placed, Stands, Trail, Holds, Entails, Sound, Agrees, Clash, Own, Forced, State, Further, Turned, Went, Last, rank}
+use Rattle.kernel.specs.Trail.{Stands, Trail, Holds, Entails, Sound, Agrees, Clash, Own, Forced, State, Further, Turned, Went, Last, rank}
 use Rattle.kernel.proofs.Truth.{opposite-true}
 use Rattle.kernel.proofs.Zeros.{zeros-fill, zeros-free, zeros-some, zeros-all}
 use Rattle.kernel.proofs.Ranks.{push-grows, turn-grows, rank-below}

@@ -5,3 +5,4 @@ pub mod Arena
 pub mod Looks
 pub mod Resolve
 pub mod Hints
+pub mod Budget

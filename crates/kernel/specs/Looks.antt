@@ -1,7 +1,6 @@
 -- What a clause says under the values.
 use mathlib.Core.List.{List}
 use Prim.Native.Nat.{ℕ}
-use Rattle.clauses.specs.declared.literal.Literal.{Literal}
 use Rattle.kernel.specs.declared.arena.Look.{Look}
 use Rattle.kernel.specs.declared.arena.Look.the-variants.{Open, Unit, Conflict}
 use Rattle.kernel.specs.Trail.{Clash, Forced}

@@ -6,7 +6,7 @@
 // Between `low` and `high` lies a gap with no header, into which a clause is stored. As a rule `high`
 // is the arena's length. A reduction opens the gap at 0 and goes through the clauses from the bottom:
 // it moves each one that it keeps down to `low`, and drops the others, so that the gap widens.
-ghost use Prim.Native.Nat.{ℕ, _+_, _-_, _<_, _≤_};
+ghost use Prim.Native.Nat.{ℕ, _+_, _<_, _≤_};
 ghost use mathlib.Core.Path.{_≡_};
 ghost use mathlib.Core.Bool.{false};
 ghost use lib.ListN.{length, getD};

@@ -31,5 +31,6 @@ pub use trail::decide;
 pub use trail::first_decision;
 pub use trail::flip;
 pub use trail::imply;
+pub use trail::is_false;
 pub use trail::last_decision;
 pub use trail::retreat;

@@ -13,6 +13,7 @@ ghost use Rattle.kernel.specs.Trail.{NoDecision, Own, State};
 ghost use Rattle.kernel.specs.Arena.{Arena, Header};
 ghost use Rattle.kernel.specs.Resolve.{Blamed, Covered, Due, Marked};
 use crate::arena::HEADER;
+use crate::trail::is_false;
 use clauses::Literal;
 
 // How many variables are marked after a clause was absorbed, and how many of those that it marked
@@ -34,9 +35,9 @@ fn count_from(places: &[u32], h: usize, from: usize) -> usize
     }
 }
 
-// Marks the variables of a clause in the place of x, a marked value that the clause has; or, with no
-// mark set and x no literal (0), the variables of a clause that is false. None where another literal
-// than x is not false, and the marks are then of no use.
+// Marks the variables of the clause at c in the place of x, a marked value that the clause has; or,
+// where x is no literal (0), the variables of a clause that is false. None where another literal than x
+// is not false: the marks are then of no use, and are to be cleared. `places` and `from` are hints.
 pub fn absorb(
     clauses: &[u32],
     values: &[u32],
@@ -61,13 +62,12 @@ pub fn absorb(
     let mut m = marks;
     let mut current = 0;
     for k in 0..n {
-        let y = arena[c + 1 + k];
-        if y != x.0 {
-            let h = (y / 2) as usize;
-            let v = values[h];
-            if v == 0 || v == y || y / 2 == x.0 / 2 {
+        let y = Literal(arena[c + 1 + k]);
+        if y.0 != x.0 {
+            if !is_false(values, y) || y.0 / 2 == x.0 / 2 {
                 return None;
             }
+            let h = (y.0 / 2) as usize;
             if seen[h] == 0 {
                 seen[h] = 1;
                 m += 1;
@@ -116,13 +116,9 @@ pub fn cover(clauses: &[u32], values: &[u32], seen: &mut [u32], marks: usize, li
 {
     let mut m = marks;
     for w in lits {
-        let y = *w;
-        let h = (y / 2) as usize;
-        if y < 2 || y >= HEADER || h >= values.len() {
-            return false;
-        }
-        let v = values[h];
-        if v == 0 || v == y {
+        let y = Literal(*w);
+        let h = (y.0 / 2) as usize;
+        if y.0 < 2 || y.0 >= HEADER || h >= values.len() || !is_false(values, y) {
             return false;
         }
         if seen[h] != 0 {

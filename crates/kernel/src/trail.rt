@@ -9,8 +9,18 @@
 ghost use Prim.Native.Nat.{_+_, _/_, _<_, _≤_};
 ghost use mathlib.Core.Path.{_≡_};
 ghost use lib.ListN.{length, set};
-ghost use Rattle.kernel.specs.Trail.{Clash, Forced, Free, Further, Last, NoDecision, State, Trail, Turned};
+ghost use Rattle.std.specs.Orderings.{When};
+ghost use Rattle.kernel.specs.Trail.{Clash, False, Forced, Free, Further, Last, NoDecision, State, Trail, Turned};
 use clauses::Literal;
+
+// Whether a literal is false.
+pub fn is_false(values: &[u32], x: Literal) -> bool
+    requires { ⌜ x .0 / 2 < length (now values) ⌝ }
+    ensures { λ r. ⌜ When r (False (now (values .entry)) (x .0)) (False (now (values .entry)) (x .0) → ⊥) ⌝ }
+{
+    let v = values[x.variable().index()];
+    v != 0 && v != x.0
+}
 
 // How many literals there are up to the last decision, that too; 0 where there is no decision.
 pub fn last_decision(kinds: &[u32], n: usize) -> usize
@@ -117,7 +127,8 @@ pub fn flip(
     if r > 0 {
         let x = Literal(trail[r - 1]);
         cut(values, trail, n, r - 1);
-        push(values, trail, kinds, r - 1, x.negated(), 1);
+        let turned = x.negated();
+        push(values, trail, kinds, r - 1, turned, 1);
     }
     r
 }

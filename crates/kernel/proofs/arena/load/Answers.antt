@@ -1,7 +1,7 @@
-use mathlib.Core.Path.{_≡_, refl, sym, subst, ap, _∙_}
-use Prim.Native.Nat.{ℕ, _+_, _-_, _≤_}
+use mathlib.Core.Path.{_≡_, refl, sym, subst}
+use Prim.Native.Nat.{_+_, _-_}
 use native.Mathlib.Omega.{arith}
-use lib.ListN.{getD, length, take, drop, length-drop}
+use lib.ListN.{length, take, drop, length-drop}
 use Rattle.std.proofs.shelf.Lists.{length-take-le}
 use Rattle.kernel.proofs.Arenas.{empty-arena, arena-as}
 use Rattle.kernel.proofs.Loading.{Reading, reading-start, reading-more, reading-next, reading-clause}

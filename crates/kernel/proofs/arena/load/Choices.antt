@@ -1,5 +1,4 @@
 use Prim.Native.Nat.{_≤_}
-use lib.ListN.{length}
 use Rattle.kernel.specs.Arena.{Arena}
 use Rattle.kernel.proofs.Loading.{Reading}
 use Rattle.kernel.proofs.arena.load.Given as given

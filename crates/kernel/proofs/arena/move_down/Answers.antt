@@ -1,9 +1,9 @@
 use mathlib.Core.Path.{_≡_, refl, subst}
-use Prim.Native.Nat.{ℕ, _+_, _≤_}
+use Prim.Native.Nat.{ℕ}
 use native.Mathlib.Omega.{arith}
-use lib.ListN.{length, getD, set, length-set}
+use lib.ListN.{getD, set, length-set}
 use lib.Seq.{getD-set-same}
-use Rattle.kernel.specs.Arena.{Arena, Clause, size}
+use Rattle.kernel.specs.Arena.{size}
 use Rattle.kernel.proofs.Arenas.{dropped}
 use Rattle.kernel.proofs.Storing.{Moving, moving-start, moving-more, moved, dropped-clause}
 use Rattle.kernel.proofs.arena.move_down.Needs as need

@@ -1,5 +1,5 @@
 use mathlib.Core.Path.{_≡_, refl, sym, subst, ap}
-use Prim.Native.Nat.{ℕ, _+_}
+use Prim.Native.Nat.{ℕ}
 use native.Mathlib.Omega.{arith}
 use native.Mathlib.Nat.{zero-add}
 use lib.ListN.{getD, length, length-set}

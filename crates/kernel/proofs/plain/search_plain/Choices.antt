@@ -1,4 +1,4 @@
-use Prim.Native.Nat.{ℕ, _-_, _^_, _≤_, _<_}
+use Prim.Native.Nat.{_-_, _^_}
 use lib.ListN.{length, take}
 use Rattle.kernel.specs.Trail.{State, rank}
 use Rattle.kernel.proofs.plain.search_plain.Given as given

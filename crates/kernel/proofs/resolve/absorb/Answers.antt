@@ -1,22 +1,22 @@
 use mathlib.Core.Path.{_≡_, subst}
-use Prim.Native.Nat.{ℕ, _+_, _≤_}
+use Prim.Native.Nat.{_≤_}
 use native.Mathlib.Omega.{arith}
 use Rattle.kernel.specs.Arena.{Clause, size}
-use Rattle.kernel.proofs.Absorbing.{Absorbing, absorbed-skip, absorbed-seen, absorbed-mark, marks-left, absorbed-core, absorbed-as}
+use Rattle.kernel.proofs.Absorbing.{absorbed-skip, absorbed-seen, absorbed-mark, marks-left, absorbed-core, absorbed-as}
 use Rattle.kernel.proofs.resolve.absorb.Needs as need
-use Rattle.kernel.proofs.resolve.absorb.Needs.{then-y-x·else-v-eq0·else-v-y·else-y-x-2·then-seen-h-eq0, then-y-x·else-v-eq0·else-v-y·else-y-x-2·else-seen-h-eq0, else-y-x}
+use Rattle.kernel.proofs.resolve.absorb.Needs.{then-y-x·else-not-is-false·else-y-x-2·then-seen-h-eq0, then-y-x·else-not-is-false·else-y-x-2·else-seen-h-eq0, else-y-x}
 
 pub loop-k-again : need.loop-k-again
 loop-k-again c =
     let inv = c .loop-k .inv .0 in
     let few : c .loop-k .current ≤ c .loop-k .k = c .loop-k .inv .1 in
     elim (c .if-y-x .came) [
-      | then-y-x·else-v-eq0·else-v-y·else-y-x-2·then-seen-h-eq0 w ↦ (
-        absorbed-as _ _ _ _ _ _ _ _ _ _ (w .seen-is) (w .m-is) (absorbed-mark _ _ _ _ _ _ _ _ inv (record { set = w .if-v-eq0 .left; other = w .if-v-y .left }) (w .if-y-x-2 .left) (omega (arith, c .pre .arena .headed (c .args .c) (c .pre .header .below) (c .pre .header .high) .clause .words (c .loop-k .k) (omega arith) .half, inv .marked .long)) (w .if-seen-h-eq0 .taken)),
+      | then-y-x·else-not-is-false·else-y-x-2·then-seen-h-eq0 w ↦ (
+        absorbed-as _ _ _ _ _ _ _ _ _ _ (w .seen-is) (w .m-is) (absorbed-mark _ _ _ _ _ _ _ _ inv (w .if-not-is-false .ensures tt) (w .if-y-x-2 .left) (omega (arith, c .pre .arena .headed (c .args .c) (c .pre .header .below) (c .pre .header .high) .clause .words (c .loop-k .k) (omega arith) .half, inv .marked .long)) (w .if-seen-h-eq0 .taken)),
         omega (arith, w .current-is, w .count-from-current .ensures),
       )
-      | then-y-x·else-v-eq0·else-v-y·else-y-x-2·else-seen-h-eq0 w ↦ (
-        absorbed-as _ _ _ _ _ _ _ _ _ _ (w .seen-is) (w .m-is) (absorbed-seen _ _ _ _ _ _ _ _ inv (record { set = w .if-v-eq0 .left; other = w .if-v-y .left }) (w .if-y-x-2 .left) (w .if-seen-h-eq0 .left)),
+      | then-y-x·else-not-is-false·else-y-x-2·else-seen-h-eq0 w ↦ (
+        absorbed-as _ _ _ _ _ _ _ _ _ _ (w .seen-is) (w .m-is) (absorbed-seen _ _ _ _ _ _ _ _ inv (w .if-not-is-false .ensures tt) (w .if-y-x-2 .left) (w .if-seen-h-eq0 .left)),
         omega (arith, w .current-is),
       )
       | else-y-x w ↦ (

@@ -1,6 +1,5 @@
-use mathlib.Core.Path.{_≡_, sym, subst, _∙_}
+use mathlib.Core.Path.{sym, subst}
 use mathlib.Core.Logic.{inl, inr, ⊎-elim}
-use mathlib.Core.Bool.{Bool}
 use native.Mathlib.Omega.{arith}
 use Rattle.kernel.proofs.Scans.{Scan, scan-clear, scan-clash, scan-end, scan-open, scan-false}
 use Rattle.kernel.proofs.scan.clashes.Needs as need
