@@ -12,4 +12,5 @@ mod policy;
 pub use occurrences::Occurrences;
 pub use order::Order;
 pub use phases::Phases;
+pub use policy::Fallbacks;
 pub use policy::Policy;

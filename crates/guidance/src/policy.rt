@@ -4,6 +4,16 @@
 // (Luby's sequence, by Knuth's two counters). When it does it may forget learned clauses: after 1,000
 // of them and 100 more each time, or when there was no room for one.
 
+// How often a search had to do without its guidance: a conflict that propagation missed, an analysis
+// of a conflict that led to no clause, and a variable that the order had lost. None of these changes an
+// answer; tests see that they don't happen.
+#[derive(Clone, Copy)]
+pub struct Fallbacks {
+    pub missed_conflicts: u32,
+    pub failed_analyses: u32,
+    pub lost_variables: u32,
+}
+
 #[derive(Clone, Copy)]
 pub struct Policy {
     conflicts: u32,
@@ -12,6 +22,7 @@ pub struct Policy {
     learned: u32,
     most: u32,
     full: bool,
+    fallbacks: Fallbacks,
 }
 
 impl Policy {
@@ -23,6 +34,11 @@ impl Policy {
             learned: 0,
             most: 1000,
             full: false,
+            fallbacks: Fallbacks {
+                missed_conflicts: 0,
+                failed_analyses: 0,
+                lost_variables: 0,
+            },
         }
     }
 
@@ -62,5 +78,21 @@ impl Policy {
         self.learned = kept;
         self.most = self.most.saturating_add(100).max(kept.saturating_add(100));
         self.full = false;
+    }
+
+    pub fn note_missed_conflict(&mut self) {
+        self.fallbacks.missed_conflicts = self.fallbacks.missed_conflicts.saturating_add(1);
+    }
+
+    pub fn note_failed_analysis(&mut self) {
+        self.fallbacks.failed_analyses = self.fallbacks.failed_analyses.saturating_add(1);
+    }
+
+    pub fn note_lost_variable(&mut self) {
+        self.fallbacks.lost_variables = self.fallbacks.lost_variables.saturating_add(1);
+    }
+
+    pub fn fallbacks(&self) -> Fallbacks {
+        self.fallbacks
     }
 }

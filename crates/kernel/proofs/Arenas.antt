@@ -5,12 +5,11 @@ use mathlib.Core.List.{List}
 use Prim.Native.Nat.{ℕ, _+_, _-_, _<_, _≤_}
 use native.Mathlib.Omega.{arith}
 use native.Mathlib.Nat.{zero-add}
-use lib.ListN.{length, getD, set, take, length-set}
+use lib.ListN.{length, getD, set, length-set}
 use lib.Seq.{getD-set-same, getD-set-other}
-use Rattle.std.proofs.shelf.Lists.{length-take-le, getD-take}
 use Rattle.std.proofs.shelf.Tests.{cases-eq, cases-lt}
 use Rattle.clauses.specs.Flat.{litTruth}
-use Rattle.kernel.specs.Arena.{head, size, Word, Clause, Headed, Arena, Header, Fetched}
+use Rattle.kernel.specs.Arena.{head, size, Word, Clause, Headed, Arena, Header}
 
 -- a clause whose words are found at another place
 pub clause-moved : (ws arena arena′ : List ℕ) (m i i′ n : ℕ) → ((k : ℕ) → k < n → getD arena′ (i′ + k) 0 ≡ getD arena (i + k) 0) → Clause ws arena m i n → Clause ws arena′ m i′ n
@@ -99,20 +98,3 @@ dropped ws arena m low c ar hd =
     (λ e. omega (arith, ap (λ (j : ℕ). getD (set arena c 0) j 0) e, getD-set-same arena c 0 0 (hd .below)))
     (λ ne. omega (arith, getD-set-other arena c p 0 0 ne, in-clause ws arena m low c c home p (omega arith) (omega arith) .low))
     (cases-eq p c))
-
--- the first k literals of the clause at i are copied
-abbrev pub Copied : List ℕ → List ℕ → ℕ → ℕ → Type 0
-Copied arena lits i k = (j : ℕ) → j < k → getD lits j 0 ≡ getD arena (i + j) 0
-
-pub copied-more : (arena lits : List ℕ) (i k : ℕ) → k < length lits → Copied arena lits i k → Copied arena (set lits k (getD arena (i + k) 0)) i (k + 1)
-copied-more arena lits i k l was j b = ⊎-elim
-    (λ e. ap (λ (q : ℕ). getD (set lits k (getD arena (i + k) 0)) q 0) e ∙ getD-set-same lits k (getD arena (i + k) 0) 0 l ∙ ap (λ (q : ℕ). getD arena (i + q) 0) (sym e))
-    (λ ne. getD-set-other lits k j (getD arena (i + k) 0) 0 ne ∙ was j (omega arith))
-    (cases-eq j k)
-
-pub fetched : (ws arena lits : List ℕ) (m i n : ℕ) → n ≤ length lits → Clause ws arena m i n → Copied arena lits i n → Fetched ws lits m n
-fetched ws arena lits m i n fits cl same = record {
-  fits = fits;
-  clause = subst (Clause ws (take n lits) m 0) (sym (length-take-le n lits fits)) (clause-moved ws arena (take n lits) m i 0 n
-      (λ k b. ap (λ (p : ℕ). getD (take n lits) p 0) (zero-add k) ∙ getD-take n lits k 0 b ∙ same k b) cl);
-}

@@ -5,7 +5,7 @@ use mathlib.Core.Logic.{_⊎_}
 use mathlib.Core.Bool.{Bool, true}
 use mathlib.Core.List.{List}
 use Prim.Native.Nat.{ℕ, _+_, _-_, _/_, _<_, _≤_}
-use lib.ListN.{length, getD, take}
+use lib.ListN.{length, getD}
 use Rattle.clauses.specs.Flat.{litTruth, Model}
 
 -- the least header
@@ -49,8 +49,3 @@ pub record Arena (ws arena : List ℕ) (m low high : ℕ) : Type 0 where
 pub record Header (arena : List ℕ) (c : ℕ) : Type 0 where
   pub below : c < length arena
   pub high : head ≤ getD arena c 0
-
--- the first n literals are a clause that follows
-pub record Fetched (ws lits : List ℕ) (m n : ℕ) : Type 0 where
-  pub fits : n ≤ length lits
-  pub clause : Clause ws (take n lits) m 0 (length (take n lits))

@@ -10,11 +10,10 @@ ghost use Prim.Native.Nat.{ℕ, _+_, _<_, _≤_};
 ghost use mathlib.Core.Path.{_≡_};
 ghost use mathlib.Core.Bool.{false};
 ghost use lib.ListN.{length, getD};
-ghost use Rattle.std.specs.Options.{Cases as BySome};
 ghost use Rattle.std.specs.Orderings.{When};
 ghost use Rattle.clauses.specs.Flat.{Well, Within};
 ghost use Rattle.kernel.specs.Trail.{Own};
-ghost use Rattle.kernel.specs.Arena.{Arena, Clause, Fetched, Header, head, size};
+ghost use Rattle.kernel.specs.Arena.{Arena, Clause, Header, head, size};
 ghost use Rattle.kernel.specs.Looks.{Looks};
 use clauses::Literal;
 
@@ -128,40 +127,6 @@ pub fn load(clauses: &[u32], m: usize, arena: &mut [u32]) -> usize
         }
     }
     low
-}
-
-// Forgets a clause.
-pub fn forget(clauses: &[u32], m: usize, arena: &mut [u32], low: usize, high: usize, c: usize)
-    requires arena { ⌜ Arena (now clauses) (now arena) m low high ⌝ }
-    requires header { ⌜ Header (now arena) c ⌝ }
-    ensures { λ _. ⌜ Arena (now (clauses .entry)) (now (arena .exit)) m low high ⌝ }
-{
-    arena[c] = 0;
-}
-
-// Copies the literals of a clause to the front of a buffer, and says how many; None where the buffer
-// is too short.
-pub fn fetch(
-    clauses: &[u32],
-    m: usize,
-    arena: &[u32],
-    low: usize,
-    high: usize,
-    c: usize,
-    lits: &mut [u32],
-) -> Option<usize>
-    requires arena { ⌜ Arena (now clauses) (now arena) m low high ⌝ }
-    requires header { ⌜ Header (now arena) c ⌝ }
-    ensures { λ r. ⌜ BySome r (Unit {0}) (λ n. Fetched (now (clauses .entry)) (now (lits .exit)) m n) ⌝ }
-{
-    let n = (arena[c] - HEADER) as usize;
-    if n > lits.len() {
-        return None;
-    }
-    for k in 0..n {
-        lits[k] = arena[c + 1 + k];
-    }
-    Some(n)
 }
 
 // Exchanges two literals of a clause, the ones at the places p and q.

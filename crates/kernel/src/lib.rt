@@ -12,8 +12,6 @@ pub use arena::Look;
 pub use arena::clause_length;
 pub use arena::drop_clause;
 pub use arena::examine;
-pub use arena::fetch;
-pub use arena::forget;
 pub use arena::is_header;
 pub use arena::load;
 pub use arena::move_down;

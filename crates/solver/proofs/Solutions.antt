@@ -7,6 +7,7 @@ use Prim.Native.Nat.{ℕ, _+_, _-_, _/_, _%_, _^_, _<_, _≤_}
 use native.Mathlib.Omega.{arith}
 use lib.ListN.{length, getD}
 use lib.Dec.{eqb}
+use Rattle.std.specs.Orderings.{When}
 use Rattle.std.proofs.shelf.Tests.{cases-eq, eq-eqb, ne-eqb}
 use Rattle.clauses.specs.Flat.{litTruth, Model, Well, Within}
 use Rattle.clauses.specs.Models.{byteOf, byteSign, valueSign, Written}
@@ -41,3 +42,10 @@ plain-model ws map values m m′ well same written sol =
       | inl free ↦ absurd (sol .full k lt lit free)
       | inr set ↦ byte-true m′ (getD ws k 0) (written .named k lt lit ∙ ap (λ i. byteOf (getD values i 0)) (same k lt lit) ∙ ap byteOf set)
     ])
+
+-- what a search says where it came out true, and where it came out false
+pub when-true : (A B : Type 0) (b : Bool) → b ≡ true → When b A B → A
+when-true A B b e h = subst (λ t. When t A B) e h
+
+pub when-false : (A B : Type 0) (b : Bool) → b ≡ false → When b A B → B
+when-false A B b e h = subst (λ t. When t A B) e h

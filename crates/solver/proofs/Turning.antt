@@ -1,32 +1,18 @@
--- What is left to do falls with each turn, and what the search keeps it keeps.
-use mathlib.Core.Path.{_≡_, refl, sym, ap, subst, _∙_}
+-- What the search keeps from turn to turn.
+use mathlib.Core.Path.{_≡_, sym, subst, _∙_}
 use mathlib.Core.List.{List}
-use Prim.Native.Nat.{ℕ, _+_, _-_, _*_, _^_, _<_, _≤_}
+use Prim.Native.Nat.{ℕ, _≤_}
 use native.Mathlib.Omega.{arith}
-use native.Mathlib.Nat.{add-mul, one-mul}
-use lib.ListN.{length, take, getD}
+use lib.ListN.{length, take}
 use Rattle.kernel.specs.Arena.{Arena}
 use Rattle.kernel.specs.Trail.{State, rank}
-use Rattle.kernel.proofs.Ranks.{rank-below}
+use Rattle.kernel.proofs.Budgets.{left-stay}
 use Rattle.solver.specs.declared.turn.Progress.{Progress}
 use Rattle.solver.specs.declared.turn.Turn.{Turn}
 use Rattle.solver.specs.declared.turn.Turn.the-variants.{Never, Met, Again}
-use Rattle.solver.specs.Steps.{left, Whole, Turns, On-with}
+use Rattle.solver.specs.Steps.{Whole, Turns, On-with}
 
--- going back costs one of the budget
-pub left-back : (m : ℕ) (ks ks′ : List ℕ) (n n′ b : ℕ) → 0 < b → left m ks′ n′ (b - 1) < left m ks n b
-left-back m ks ks′ n n′ b h =
-    let one : (b - 1 + 1) * 3 ^ m ≡ (b - 1) * 3 ^ m + 3 ^ m = add-mul (b - 1) 1 (3 ^ m) ∙ ap (λ z. (b - 1) * 3 ^ m + z) (one-mul (3 ^ m)) in
-    let up : b - 1 + 1 ≡ b = omega arith in
-    omega (arith, sym (ap (λ z. z * 3 ^ m) up) ∙ one, rank-below m (take n ks))
-
--- a step on makes the trail's number larger
-pub left-on : (m : ℕ) (ks ks′ : List ℕ) (n n′ b : ℕ) → rank m (take n ks) < rank m (take n′ ks′) → left m ks′ n′ b < left m ks n b
-left-on m ks ks′ n n′ b h = omega (arith, rank-below m (take n′ ks′))
-
-pub left-stay : (m : ℕ) (ks ks′ : List ℕ) (n n′ b : ℕ) → rank m (take n ks) ≤ rank m (take n′ ks′) → left m ks′ n′ b ≤ left m ks n b
-left-stay m ks ks′ n n′ b h = omega (arith, rank-below m (take n′ ks′))
-
+-- whole states, with other terms for what they are of
 pub whole-as : (ws vs ts ks seen seen′ words words′ : List ℕ) (n low : ℕ) → seen′ ≡ seen → words′ ≡ words → Whole ws vs ts ks seen words n low → Whole ws vs ts ks seen′ words′ n low
 whole-as ws vs ts ks seen seen′ words words′ n low es ew h = subst (λ s. Whole ws vs ts ks s words′ n low) (sym es) (subst (λ d. Whole ws vs ts ks seen d n low) (sym ew) h)
 

@@ -1,12 +1,13 @@
 -- What the parts of the search keep, and how far they come.
 use mathlib.Core.Path.{_≡_}
 use mathlib.Core.List.{List}
-use Prim.Native.Nat.{ℕ, _+_, _-_, _*_, _^_, _<_, _≤_}
-use lib.ListN.{length, getD, take}
+use Prim.Native.Nat.{ℕ, _<_, _≤_}
+use lib.ListN.{length, getD}
 use Rattle.std.specs.declared.option.Option.{Option}
 use Rattle.std.specs.declared.option.Option.the-variants.{Some, None}
 use Rattle.clauses.specs.Flat.{Hopeless}
-use Rattle.kernel.specs.Trail.{State, Went, Clash, rank}
+use Rattle.kernel.specs.Budget.{left}
+use Rattle.kernel.specs.Trail.{State, Went, Clash}
 use Rattle.kernel.specs.Arena.{Arena, Header}
 use Rattle.kernel.specs.Scan.{Solution}
 use Rattle.solver.specs.declared.learn.Lesson.{Lesson}
@@ -36,11 +37,7 @@ abbrev pub Learned : List ℕ → List ℕ → List ℕ → List ℕ → List �
 Learned ws vs ts ks seen arena n low None = Whole ws vs ts ks seen arena n low
 Learned ws vs ts ks seen arena n low (Some l) = Whole ws vs ts ks seen arena n (l .low) × Header arena low × (l .keep ≤ n)
 
--- What is left to do: how often the search may still go back, and then how far the trail, read as a
--- number to the base 3, is from the largest. It falls with each turn.
-abbrev pub left : ℕ → List ℕ → ℕ → ℕ → ℕ
-left m ks n b = b * 3 ^ m + (3 ^ m - rank m (take n ks))
-
+-- a turn after which the search goes on: what is left to do has fallen
 pub record On-with (ws vs ts ks ks′ seen arena : List ℕ) (n b : ℕ) (p : Progress) : Type 0 where
   pub whole : Whole ws vs ts ks′ seen arena (p .n) (p .low)
   pub less : left (length vs) ks′ (p .n) (p .budget) < left (length vs) ks n b

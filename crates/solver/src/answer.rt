@@ -21,6 +21,7 @@ use clauses::number_variables;
 use clauses::variables_below;
 use clauses::well_formed;
 use clauses::write_model;
+use guidance::Fallbacks;
 use guidance::Occurrences;
 use guidance::Order;
 use guidance::Phases;
@@ -37,16 +38,23 @@ fn clear(words: &mut [u32])
     words.fill(0);
 }
 
+// Whether the clauses are met, and how often the search had to do without its guidance.
+#[derive(Clone, Copy)]
+struct Outcome {
+    met: bool,
+    fallbacks: Fallbacks,
+}
+
 // Searches with learned clauses for values of `count` variables that meet the clauses; `values` is
 // cleared first.
-fn search_learning(clauses: &[u32], count: usize, values: &mut [u32], work: &mut [u32]) -> bool
+fn search_learning(clauses: &[u32], count: usize, values: &mut [u32], work: &mut [u32]) -> Outcome
     requires well { ⌜ Well false (now clauses) ⌝ }
     requires within { ⌜ Within (now clauses) (count + 1) ⌝ }
     requires few { ⌜ count ≤ length (now clauses) ⌝ }
     requires short { ⌜ length (now clauses) < 2 ^ 30 ⌝ }
     requires values { ⌜ length (now values) ≡ count + 1 ⌝ }
     requires room { ⌜ 12 * (count + 1) + (3 * length (now clauses) + 3) ≤ length (now work) ⌝ }
-    ensures { λ r. ⌜ When r (Solution (now (clauses .entry)) (now (values .exit))) (Hopeless (now (clauses .entry))) ⌝ }
+    ensures { λ r. ⌜ When (r .met) (Solution (now (clauses .entry)) (now (values .exit))) (Hopeless (now (clauses .entry))) ⌝ }
 {
     let n = count + 1;
     let (trail, rest) = work.split_at_mut(n);
@@ -77,27 +85,32 @@ fn search_learning(clauses: &[u32], count: usize, values: &mut [u32], work: &mut
             g.order.insert(Variable(v as u32));
         }
     }
-    search(clauses, values, trail, kinds, seen, lits, arena, &mut g)
+    let met = search(clauses, values, trail, kinds, seen, lits, arena, &mut g);
+    Outcome {
+        met,
+        fallbacks: g.policy.fallbacks(),
+    }
 }
 
 // Searches for a model of the clauses with learned clauses, and writes it.
-fn solve_learning(clauses: &[u32], model: &mut [u8], work: &mut [u32]) -> bool
+fn solve_learning(clauses: &[u32], model: &mut [u8], work: &mut [u32]) -> Outcome
     requires well { ⌜ Well false (now clauses) ⌝ }
     requires within { ⌜ Within (now clauses) (length (now model) + 1) ⌝ }
     requires short { ⌜ length (now clauses) < 2 ^ 30 ⌝ }
     requires room { ⌜ 32 * length (now clauses) + (8 * length (now model) + 4096) ≤ length (now work) ⌝ }
-    ensures { λ r. ⌜ When r (Answers (now (clauses .entry)) (now (model .entry)) (now (model .exit))) (Refuses (now (clauses .entry)) (now (model .entry)) (now (model .exit))) ⌝ }
+    ensures { λ r. ⌜ When (r .met) (Answers (now (clauses .entry)) (now (model .entry)) (now (model .exit))) (Refuses (now (clauses .entry)) (now (model .entry)) (now (model .exit))) ⌝ }
 {
     let (map, rest) = work.split_at_mut(model.len());
     let (names, rest) = rest.split_at_mut(clauses.len());
     let (renamed, rest) = rest.split_at_mut(clauses.len());
     let count = number_variables(clauses, map, names, renamed);
     let (values, rest) = rest.split_at_mut(count + 1);
-    if search_learning(renamed, count, values, rest) {
+    let outcome = search_learning(renamed, count, values, rest);
+    if outcome.met {
         write_model(clauses, map, values, model);
-        return true;
+        return outcome;
     }
-    false
+    outcome
 }
 
 // The number of variable v, from 1 on, if it has one.
@@ -139,30 +152,68 @@ fn solve_plain(clauses: &[u32], model: &mut [u8], work: &mut [u32]) -> bool
     false
 }
 
+// An answer, and how often the search had to do without its guidance.
+#[derive(Clone, Copy)]
+pub struct Counted {
+    pub solved: Solved,
+    pub fallbacks: Fallbacks,
+}
+
+// Says whether some assignment meets all clauses, writes one, and counts fallbacks.
+pub fn solve_counted(clauses: &[u32], model: &mut [u8], work: &mut [u32]) -> Counted
+    ensures { λ r. ⌜ SolvedPost (now (clauses .entry)) (length (now (work .entry))) (now (model .entry)) (now (model .exit)) (r .solved) ⌝ }
+{
+    let none = Fallbacks {
+        missed_conflicts: 0,
+        failed_analyses: 0,
+        lost_variables: 0,
+    };
+    if !enough_room(clauses.len(), model.len(), work.len()) {
+        return Counted {
+            solved: Solved::Small,
+            fallbacks: none,
+        };
+    }
+    if !well_formed(clauses) {
+        return Counted {
+            solved: Solved::NoClauses,
+            fallbacks: none,
+        };
+    }
+    if !variables_below(clauses, model.len()) {
+        return Counted {
+            solved: Solved::Small,
+            fallbacks: none,
+        };
+    }
+    if clauses.len() < MOST_NUMBERS {
+        let outcome = solve_learning(clauses, model, work);
+        if outcome.met {
+            return Counted {
+                solved: Solved::Met,
+                fallbacks: outcome.fallbacks,
+            };
+        }
+        return Counted {
+            solved: Solved::Never,
+            fallbacks: outcome.fallbacks,
+        };
+    }
+    if solve_plain(clauses, model, work) {
+        return Counted {
+            solved: Solved::Met,
+            fallbacks: none,
+        };
+    }
+    Counted {
+        solved: Solved::Never,
+        fallbacks: none,
+    }
+}
+
 // Says whether some assignment meets all clauses, and writes one.
 pub fn solve(clauses: &[u32], model: &mut [u8], work: &mut [u32]) -> Solved
     ensures { λ r. ⌜ SolvedPost (now (clauses .entry)) (length (now (work .entry))) (now (model .entry)) (now (model .exit)) r ⌝ }
 {
-    if !enough_room(clauses.len(), model.len(), work.len()) {
-        return Solved::Small;
-    }
-    if !well_formed(clauses) {
-        return Solved::NoClauses;
-    }
-    if !variables_below(clauses, model.len()) {
-        return Solved::Small;
-    }
-    if clauses.len() < MOST_NUMBERS {
-        if solve_learning(clauses, model, work) {
-            Solved::Met
-        } else {
-            Solved::Never
-        }
-    } else {
-        if solve_plain(clauses, model, work) {
-            Solved::Met
-        } else {
-            Solved::Never
-        }
-    }
+    solve_counted(clauses, model, work).solved
 }

@@ -128,6 +128,7 @@ fn analyze(
         g,
         c,
     ) else {
+        g.policy.note_failed_analysis();
         return None;
     };
     let Some(smaller) = minimize(
@@ -144,6 +145,7 @@ fn analyze(
         blame.marks,
         g,
     ) else {
+        g.policy.note_failed_analysis();
         return None;
     };
     Some(drop_zero_marks(
@@ -186,6 +188,7 @@ pub(crate) fn learn(
     let keep = next_decision(kinds, found.second, n);
     let k = found.count;
     if !cover(clauses, values, seen, marks, &lits[0..k]) {
+        g.policy.note_failed_analysis();
         seen.fill(0);
         return None;
     }

@@ -15,4 +15,6 @@ mod restart;
 mod search;
 mod turn;
 
+pub use answer::Counted;
 pub use answer::solve;
+pub use answer::solve_counted;

@@ -152,6 +152,7 @@ fn finish(
     ensures { λ r. ⌜ Turns (now (clauses .entry)) (now (values .exit)) (now (trail .exit)) (now (kinds .entry)) (now (kinds .exit)) (now (seen .exit)) (now (arena .exit)) (at .n) (at .budget) r ⌝ }
 {
     if clashes(clauses, values) {
+        g.policy.note_missed_conflict();
         let nowhere = arena.len();
         return respond(
             clauses,
@@ -194,6 +195,7 @@ fn choose(
             let Some(x) = free_literal(clauses, values) else {
                 return finish(clauses, values, trail, kinds, seen, lits, arena, g, at);
             };
+            g.policy.note_lost_variable();
             x
         }
     };

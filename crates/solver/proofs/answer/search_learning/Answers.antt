@@ -1,8 +1,8 @@
 use native.Mathlib.Omega.{arith}
 use Rattle.solver.proofs.answer.search_learning.Needs as need
 
-pub search-requires : need.search-requires
-search-requires c κs =
+pub search-met-requires : need.search-met-requires
+search-met-requires c κs =
     record {
       well = c .pre .well;
       within = λ k l. omega (arith, c .pre .within k l);

@@ -2,8 +2,9 @@ use native.Mathlib.Omega.{arith}
 use lib.ListN.{length}
 use mathlib.Core.Path.{_≡_, sym, subst}
 use Prim.Native.Nat.{_+_, _<_}
-use Rattle.solver.specs.Steps.{left}
-use Rattle.solver.proofs.Turning.{left-back, left-on, whole-on}
+use Rattle.kernel.specs.Budget.{left}
+use Rattle.kernel.proofs.Budgets.{left-over, left-on}
+use Rattle.solver.proofs.Turning.{whole-on}
 use Rattle.solver.proofs.search.choose.Needs as need
 
 pub returns-then-restart-due : need.returns-then-restart-due
@@ -12,7 +13,7 @@ returns-then-restart-due c =
     record {
       whole = c .start-over-next .ensures .whole;
       less = subst (λ b. left (length (c .start-over-next .last .values)) (c .args .kinds .now) (next .n) b < left (length (c .start-over-next .last .values)) (c .args .kinds .now) (c .args .at .n) (c .args .at .budget)) (sym (c .start-over-next .ensures .budget))
-          (left-back (length (c .start-over-next .last .values)) (c .args .kinds .now) (c .args .kinds .now) (c .args .at .n) (next .n) (c .args .at .budget) (c .if-at-gt0 .taken));
+          (left-over (length (c .start-over-next .last .values)) (c .args .kinds .now) (c .args .kinds .now) (c .args .at .n) (next .n) (c .args .at .budget) (c .if-at-gt0 .taken));
     }
 
 pub returns : need.returns

@@ -1,7 +1,8 @@
 use native.Mathlib.Omega.{arith}
 use lib.ListN.{length}
 use Rattle.solver.specs.Steps.{Whole}
-use Rattle.solver.proofs.Turning.{left-back, left-on, whole-as, whole-on}
+use Rattle.kernel.proofs.Budgets.{left-over, left-on}
+use Rattle.solver.proofs.Turning.{whole-as, whole-on}
 use Rattle.solver.proofs.search.respond.Needs as need
 use Rattle.solver.proofs.search.respond.Needs.{then-at-gt0·then-is-header·in-rest, else-at-gt0}
 
@@ -9,7 +10,7 @@ pub returns-in-Some : need.returns-in-Some
 returns-in-Some c =
     record {
       whole = whole-on _ (c .args .values .now) _ _ _ _ _ _ _ _ _ _ (omega arith) (c .in-Some .ensures tt .0) (c .jump-n .ensures);
-      less = left-back (length (c .jump-n .last .values)) (c .args .kinds .now) (c .jump-n .last .kinds) (c .args .at .n) (c .jump-n .result) (c .args .at .budget) (c .if-at-gt0 .taken);
+      less = left-over (length (c .jump-n .last .values)) (c .args .kinds .now) (c .jump-n .last .kinds) (c .args .at .n) (c .jump-n .result) (c .args .at .budget) (c .if-at-gt0 .taken);
     }
 
 -- whether a clause was learned or not, what the search keeps is kept

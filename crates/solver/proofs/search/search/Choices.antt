@@ -1,5 +1,6 @@
 use lib.ListN.{length}
-use Rattle.solver.specs.Steps.{Whole, left}
+use Rattle.kernel.specs.Budget.{left}
+use Rattle.solver.specs.Steps.{Whole}
 use Rattle.solver.proofs.search.search.Given as given
 
 abbrev pub Inv-turns : given.InvT-turns
