@@ -11,6 +11,16 @@ extern "C" {
         work: *mut u32,
         work_len: usize,
     ) -> u32;
+    fn rulebook_solve_counted(
+        clauses: *const u32,
+        clauses_len: usize,
+        model: *mut u8,
+        model_len: usize,
+        work: *mut u32,
+        work_len: usize,
+        counts: *mut u32,
+        counts_len: usize,
+    ) -> u32;
 }
 
 /// Eight times the least work memory is lent, as long as that is no more words than these.
@@ -29,22 +39,53 @@ pub enum Answer {
     Small,
 }
 
+/// How often a search had to do without its guidance. None of these changes an answer.
+#[derive(Debug, Default, PartialEq, Eq)]
+pub struct Fallbacks {
+    /// Conflicts that propagation missed.
+    pub missed_conflicts: u32,
+    /// Analyses of a conflict that led to no clause.
+    pub failed_analyses: u32,
+    /// Variables that the order of decisions had lost.
+    pub lost_variables: u32,
+}
+
 /// Whether some values of so many variables meet the clauses. These are numbers: 2v + 2 for variable v
 /// (from 0), 2v + 3 for its negation, and 0 after each clause.
 pub fn solve(clauses: &[u32], variables: usize) -> Answer {
-    let least = least_work(clauses.len(), variables);
-    // A search that has room for more learned clauses forgets fewer.
-    let ample = least.saturating_mul(8).min(MUCH).max(least);
-    let Some(mut work) = zeros(ample).or_else(|| zeros(least)) else {
+    let Some(mut work) = ample_work(clauses.len(), variables) else {
         return Answer::Small;
     };
     let mut model = vec![0; variables];
-    match call(clauses, &mut model, &mut work) {
+    let code = call(clauses, &mut model, &mut work);
+    answer(code, model)
+}
+
+/// The same, with how often the search had to do without its guidance.
+pub fn solve_counted(clauses: &[u32], variables: usize) -> (Answer, Fallbacks) {
+    let Some(mut work) = ample_work(clauses.len(), variables) else {
+        return (Answer::Small, Fallbacks::default());
+    };
+    let mut model = vec![0; variables];
+    let (code, fallbacks) = call_counted(clauses, &mut model, &mut work);
+    (answer(code, model), fallbacks)
+}
+
+fn answer(code: Code, model: Vec<u8>) -> Answer {
+    match code {
         Code::Met => Answer::Met(model),
         Code::Never => Answer::Never,
         Code::NoClauses => Answer::NoClauses,
         Code::Small => Answer::Small,
     }
+}
+
+/// Work memory for so many numbers and variables, if it can be had: more than the least, since a
+/// search that has room for more learned clauses forgets fewer.
+fn ample_work(numbers: usize, variables: usize) -> Option<Vec<u32>> {
+    let least = least_work(numbers, variables);
+    let ample = least.saturating_mul(8).min(MUCH).max(least);
+    zeros(ample).or_else(|| zeros(least))
 }
 
 /// The words that the library has to be lent.
@@ -88,12 +129,43 @@ fn call(clauses: &[u32], model: &mut [u8], work: &mut [u32]) -> Code {
             work.len(),
         )
     };
-    match code {
-        0 => Code::Met,
-        1 => Code::Never,
-        2 => Code::NoClauses,
-        3 => Code::Small,
-        _ => unreachable!("the library answers {code}"),
+    Code::from_number(code)
+}
+
+/// Calls the library with this memory, and has it count.
+fn call_counted(clauses: &[u32], model: &mut [u8], work: &mut [u32]) -> (Code, Fallbacks) {
+    let mut counts = [0; 3];
+    // SAFETY: as for `call`; the counts are written within their length too.
+    let code = unsafe {
+        rulebook_solve_counted(
+            clauses.as_ptr(),
+            clauses.len(),
+            model.as_mut_ptr(),
+            model.len(),
+            work.as_mut_ptr(),
+            work.len(),
+            counts.as_mut_ptr(),
+            counts.len(),
+        )
+    };
+    let [missed_conflicts, failed_analyses, lost_variables] = counts;
+    let fallbacks = Fallbacks {
+        missed_conflicts,
+        failed_analyses,
+        lost_variables,
+    };
+    (Code::from_number(code), fallbacks)
+}
+
+impl Code {
+    fn from_number(code: u32) -> Code {
+        match code {
+            0 => Code::Met,
+            1 => Code::Never,
+            2 => Code::NoClauses,
+            3 => Code::Small,
+            _ => unreachable!("the library answers {code}"),
+        }
     }
 }
 
@@ -187,6 +259,38 @@ mod tests {
         assert_eq!(solve(&[3, 0], 1), Answer::Met(vec![0]));
         assert!(agreed(&[2, 3, 0], 1));
         assert!(agreed(&[2, 2, 0, 2, 2, 0], 1));
+    }
+
+    /// So many pigeons in one hole fewer: never met, and not seen at once.
+    fn pigeons(count: u32) -> (Vec<u32>, usize) {
+        let holes = count - 1;
+        let mut clauses = Vec::new();
+        for pigeon in 0..count {
+            clauses.extend((0..holes).map(|hole| 2 * (pigeon * holes + hole) + 2));
+            clauses.push(0);
+        }
+        for hole in 0..holes {
+            for one in 0..count {
+                for other in 0..one {
+                    clauses.push(2 * (one * holes + hole) + 3);
+                    clauses.push(2 * (other * holes + hole) + 3);
+                    clauses.push(0);
+                }
+            }
+        }
+        (clauses, (count * holes) as usize)
+    }
+
+    #[test]
+    fn needs_no_fallback() {
+        let mut random = Random(31);
+        let mut lists = vec![pigeons(6), pigeons(8)];
+        lists.extend((0..40).map(|_| (random.three_sat(80, 340), 80)));
+        for (clauses, variables) in lists {
+            let (answer, fallbacks) = solve_counted(&clauses, variables);
+            assert_eq!(answer, solve(&clauses, variables));
+            assert_eq!(fallbacks, Fallbacks::default(), "{clauses:?}");
+        }
     }
 
     #[test]

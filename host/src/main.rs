@@ -43,7 +43,7 @@ fn main() -> ExitCode {
     let arguments: Vec<OsString> = env::args_os().skip(1).collect();
     let (status, message) = match run(&arguments) {
         Ok(status) => return ExitCode::from(status),
-        Err(Failure::BadUse) => (2, "use: rulebook solve FILE.cnf".to_string()),
+        Err(Failure::BadUse) => (2, "use: rulebook solve [--counts] FILE.cnf".to_string()),
         Err(Failure::BadInput(message)) => (2, format!("rulebook: {message}")),
         Err(Failure::CannotWrite(error)) => (2, format!("rulebook: can't write: {error}")),
         Err(Failure::Internal(message)) => (3, format!("rulebook: internal error: {message}")),
@@ -54,16 +54,25 @@ fn main() -> ExitCode {
 
 fn run(arguments: &[OsString]) -> Result<u8, Failure> {
     match arguments {
-        [command, file] if command == "solve" => solve(file),
+        [command, file] if command == "solve" => solve(file, false),
+        [command, option, file] if command == "solve" && option == "--counts" => solve(file, true),
         _ => Err(Failure::BadUse),
     }
 }
 
-/// Solves the clauses of a file, and gives the exit status.
-fn solve(file: &OsStr) -> Result<u8, Failure> {
+/// Solves the clauses of a file, and gives the exit status. Where it is to count, a comment line says
+/// how often the search had to do without its guidance.
+fn solve(file: &OsStr, counting: bool) -> Result<u8, Failure> {
     let Formula { variables, clauses } = load(file)?;
     let mut out = BufWriter::new(io::stdout().lock());
-    let status = match library::solve(&clauses, variables) {
+    let answer = if counting {
+        let (answer, fallbacks) = library::solve_counted(&clauses, variables);
+        print::fallbacks(&mut out, &fallbacks)?;
+        answer
+    } else {
+        library::solve(&clauses, variables)
+    };
+    let status = match answer {
         Answer::Met(model) if check::meets(&model, &clauses) => {
             print::met(&mut out, &model)?;
             SATISFIABLE

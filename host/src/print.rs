@@ -1,5 +1,6 @@
 //! Printing an answer in the form of the SAT competitions.
 
+use crate::library::Fallbacks;
 use std::fmt::Write as _;
 use std::io::{self, Write};
 use std::iter::once;
@@ -26,6 +27,15 @@ pub fn met(out: &mut impl Write, model: &[u8]) -> io::Result<()> {
         }
     }
     writeln!(out, "{line}")
+}
+
+/// Writes a comment on how often the search had to do without its guidance.
+pub fn fallbacks(out: &mut impl Write, counted: &Fallbacks) -> io::Result<()> {
+    writeln!(
+        out,
+        "c missed conflicts {}, failed analyses {}, lost variables {}",
+        counted.missed_conflicts, counted.failed_analyses, counted.lost_variables
+    )
 }
 
 fn literal((variable, &value): (i64, &u8)) -> i64 {

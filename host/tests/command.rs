@@ -97,7 +97,7 @@ fn refuses_bad_use() {
     for arguments in [&[][..], &["solve"], &["prove", "-"], &["solve", "-", "-"]] {
         assert_eq!(
             rulebook(arguments, ""),
-            said(2, "", "use: rulebook solve FILE.cnf\n")
+            said(2, "", "use: rulebook solve [--counts] FILE.cnf\n")
         );
     }
 }
