@@ -20,6 +20,7 @@ pub struct Policy {
     run: u32,
     length: u32,
     learned: u32,
+    fresh: u32,
     most: u32,
     full: bool,
     fallbacks: Fallbacks,
@@ -32,6 +33,7 @@ impl Policy {
             run: 1,
             length: 1,
             learned: 0,
+            fresh: 0,
             most: 1000,
             full: false,
             fallbacks: Fallbacks {
@@ -42,19 +44,31 @@ impl Policy {
         }
     }
 
-    // A conflict was met, and a clause learned from it or not for want of room.
-    pub fn note_conflict(&mut self, stored: bool) {
+    // A clause was learned from a conflict.
+    pub fn note_learned(&mut self) {
         self.conflicts = self.conflicts.saturating_add(1);
-        if stored {
-            self.learned = self.learned.saturating_add(1);
-        } else {
-            self.full = true;
-        }
+        self.learned = self.learned.saturating_add(1);
+        self.fresh = self.fresh.saturating_add(1);
+    }
+
+    // There was no room for a clause that was learned.
+    pub fn note_full(&mut self) {
+        self.full = true;
+    }
+
+    pub fn is_full(&self) -> bool {
+        self.full
+    }
+
+    // Whether there was no room for a clause, and enough were learned since some were last forgotten
+    // for it to pay to forget some now. Where it doesn't pay the search goes on without learning.
+    pub fn forgetting_pays(&self) -> bool {
+        self.full && self.fresh >= 16
     }
 
     // Whether to start over.
     pub fn restart_due(&self) -> bool {
-        self.full || self.conflicts >= self.length.saturating_mul(64)
+        self.conflicts >= self.length.saturating_mul(64)
     }
 
     // The search has started over.
@@ -75,6 +89,7 @@ impl Policy {
 
     // So many learned clauses are left.
     pub fn note_reduction(&mut self, kept: u32) {
+        self.fresh = 0;
         self.learned = kept;
         self.most = self.most.saturating_add(100).max(kept.saturating_add(100));
         self.full = false;

@@ -193,6 +193,7 @@ pub(crate) fn learn(
         return None;
     }
     if k >= 0x7fff_ffff || low > arena.len() || arena.len() - low < k + 1 {
+        g.policy.note_full();
         return None;
     }
     let next = store(clauses, values.len(), arena, low, arena.len(), &lits[0..k]);

@@ -16,25 +16,38 @@ use kernel::move_down;
 // Scores are counted up to this one.
 const SCORES: usize = 64;
 
-// The largest score of the better half of the learned clauses, at least 2.
-fn score_limit(g: &Guide, arena: &[u32], low: usize) -> u32 {
+// How many learned clauses have each score.
+fn count_scores(g: &Guide, arena: &[u32], low: usize) -> [u32; 64] {
     let mut counts = [0u32; 64];
-    let mut all: u32 = 0;
     for c in g.given..low {
         if is_header(arena, c) {
             let score = (g.lists.score(c) as usize).min(SCORES - 1);
             counts[score] = counts[score].saturating_add(1);
-            all = all.saturating_add(1);
         }
+    }
+    counts
+}
+
+// The largest score to keep: that of the better half, at least 2. Where there was no room and that
+// would free less than a quarter, all are to go.
+fn score_limit(counts: &[u32; 64], full: bool) -> u32 {
+    let mut all: u32 = 0;
+    for count in counts {
+        all = all.saturating_add(*count);
     }
     let mut kept: u32 = 0;
     for score in 0..SCORES as u32 {
-        kept = kept.saturating_add(counts[score as usize]);
-        if kept > all / 2 {
-            return if score > 3 { score - 1 } else { 2 };
+        let more = kept.saturating_add(counts[score as usize]);
+        if score > 2 && more > all / 2 {
+            return if full && kept > all - all / 4 {
+                0
+            } else {
+                score - 1
+            };
         }
+        kept = more;
     }
-    2
+    if full { 0 } else { 2 }
 }
 
 // Where the clauses end after some were forgotten, and how many learned ones are left.
@@ -95,7 +108,7 @@ pub(crate) fn reduce(
     requires { ⌜ Arena (now clauses) (now arena) m low (length (now arena)) ⌝ }
     ensures { λ r. ⌜ Arena (now (clauses .entry)) (now (arena .exit)) m r (length (now (arena .exit))) ⌝ }
 {
-    let limit = score_limit(g, arena, low);
+    let limit = score_limit(&count_scores(g, arena, low), g.policy.is_full());
     let rest = compact(clauses, m, arena, g, limit);
     attach_all(arena, g);
     g.policy.note_reduction(rest.learned);

@@ -37,6 +37,36 @@ use kernel::load;
 // How often the search may go back further than the last decision.
 const BUDGET: u64 = 0x1000_0000_0000;
 
+// Starts over with no decision, and forgets clauses where that is due.
+fn start_over(
+    clauses: &[u32],
+    values: &mut [u32],
+    trail: &[u32],
+    kinds: &[u32],
+    seen: &[u32],
+    arena: &mut [u32],
+    g: &mut Guide,
+    at: Progress,
+) -> Progress
+    requires whole { ⌜ Whole (now clauses) (now values) (now trail) (now kinds) (now seen) (now arena) (at .n) (at .low) ⌝ }
+    requires budget { ⌜ 0 < at .budget ⌝ }
+    ensures whole { λ r. ⌜ Whole (now (clauses .entry)) (now (values .exit)) (now (trail .entry)) (now (kinds .entry)) (now (seen .entry)) (now (arena .exit)) (r .n) (r .low) ⌝ }
+    ensures budget { λ r. ⌜ r .budget ≡ at .budget - 1 ⌝ }
+{
+    let n = withdraw(clauses, values, trail, kinds, at.n, g);
+    g.policy.note_restart();
+    let mut low = at.low;
+    if g.policy.reduction_due() {
+        low = reduce(clauses, values.len(), arena, low, g);
+    }
+    Progress {
+        n,
+        low,
+        budget: at.budget - 1,
+        from: n,
+    }
+}
+
 // Goes on from a conflict: c is the place of the clause that is false, if it stands in the arena.
 fn respond(
     clauses: &[u32],
@@ -81,7 +111,7 @@ fn respond(
                 at.low,
             );
             g.order.decay();
-            g.policy.note_conflict(true);
+            g.policy.note_learned();
             return Turn::Again(Progress {
                 n,
                 low: l.low,
@@ -89,7 +119,10 @@ fn respond(
                 from: l.keep,
             });
         }
-        g.policy.note_conflict(false);
+        if g.policy.forgetting_pays() {
+            let next = start_over(clauses, values, trail, kinds, seen, arena, g, at);
+            return Turn::Again(next);
+        }
     }
     let decision = last_decision(kinds, at.n);
     release(g, trail, decision.saturating_sub(1), at.n);
@@ -103,36 +136,6 @@ fn respond(
         budget: at.budget,
         from: n - 1,
     })
-}
-
-// Starts over with no decision, and forgets clauses where that is due.
-fn start_over(
-    clauses: &[u32],
-    values: &mut [u32],
-    trail: &[u32],
-    kinds: &[u32],
-    seen: &[u32],
-    arena: &mut [u32],
-    g: &mut Guide,
-    at: Progress,
-) -> Progress
-    requires whole { ⌜ Whole (now clauses) (now values) (now trail) (now kinds) (now seen) (now arena) (at .n) (at .low) ⌝ }
-    requires budget { ⌜ 0 < at .budget ⌝ }
-    ensures whole { λ r. ⌜ Whole (now (clauses .entry)) (now (values .exit)) (now (trail .entry)) (now (kinds .entry)) (now (seen .entry)) (now (arena .exit)) (r .n) (r .low) ⌝ }
-    ensures budget { λ r. ⌜ r .budget ≡ at .budget - 1 ⌝ }
-{
-    let n = withdraw(clauses, values, trail, kinds, at.n, g);
-    g.policy.note_restart();
-    let mut low = at.low;
-    if g.policy.reduction_due() {
-        low = reduce(clauses, values.len(), arena, low, g);
-    }
-    Progress {
-        n,
-        low,
-        budget: at.budget - 1,
-        from: n,
-    }
 }
 
 // All variables are set: looks at every given clause, whatever propagation may have missed.
