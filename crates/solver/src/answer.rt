@@ -12,7 +12,6 @@ ghost use Rattle.clauses.specs.Flat.{Hopeless, Well, Within};
 ghost use Rattle.clauses.specs.Says.{SolvedPost};
 ghost use Rattle.kernel.specs.Scan.{Solution};
 ghost use Rattle.solver.specs.Solving.{Answers, Refuses};
-use crate::guide::Guide;
 use crate::search::search;
 use clauses::Solved;
 use clauses::Variable;
@@ -27,6 +26,7 @@ use guidance::Order;
 use guidance::Phases;
 use guidance::Policy;
 use kernel::search_plain;
+use learning::Guide;
 
 // Lists of fewer numbers than this are searched with learned clauses: their places fit 30 bits.
 const MOST_NUMBERS: usize = 0x4000_0000;

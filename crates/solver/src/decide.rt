@@ -1,8 +1,8 @@
 // What to decide next: the most active variable that is free, set as it was last.
 ghost use Rattle.std.specs.Options.{Cases};
 ghost use Rattle.kernel.specs.Trail.{Free};
-use crate::guide::Guide;
 use clauses::Literal;
+use learning::Guide;
 
 // A literal that is free, if one comes from the order.
 pub(crate) fn pick(values: &[u32], g: &mut Guide) -> Option<Literal>

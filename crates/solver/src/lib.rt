@@ -1,15 +1,10 @@
 // The solver: a list of clauses is met, with a model, or never met.
 //
-// A module a technique: propagation, conflict analysis and its minimization, learning, decisions,
-// starting over, forgetting, and the search that uses them. What an answer rests on are the kernel's
-// steps; what guides the search has no invariant, and is tested where it is used.
-mod analyze;
+// A module a technique: decisions, starting over, forgetting, and the search that uses them over
+// propagation and learning. What an answer rests on are the kernel's steps; what guides the search has
+// no invariant, and is tested where it is used.
 mod answer;
 mod decide;
-mod guide;
-mod learn;
-mod minimize;
-mod propagate;
 mod reduce;
 mod restart;
 mod search;

@@ -7,11 +7,11 @@
 ghost use Prim.Native.Nat.{_+_, _<_, _≤_};
 ghost use lib.ListN.{length};
 ghost use Rattle.kernel.specs.Arena.{Arena};
-use crate::guide::Guide;
 use kernel::clause_length;
 use kernel::drop_clause;
 use kernel::is_header;
 use kernel::move_down;
+use learning::Guide;
 
 // Scores are counted up to this one.
 const SCORES: usize = 64;

@@ -2,10 +2,10 @@
 ghost use Prim.Native.Nat.{_≤_};
 ghost use lib.ListN.{length};
 ghost use Rattle.kernel.specs.Trail.{State};
-use crate::guide::Guide;
-use crate::guide::release;
 use kernel::first_decision;
 use kernel::retreat;
+use learning::Guide;
+use learning::release;
 
 // Frees all from the first decision on, and gives how many literals stay set.
 pub(crate) fn withdraw(

@@ -3,7 +3,7 @@ use mathlib.Core.Path.{_≡_, sym, subst}
 use Prim.Native.Nat.{_<_}
 use lib.ListN.{length}
 use Rattle.kernel.specs.Budget.{left}
-use Rattle.solver.specs.Steps.{Whole}
+use Rattle.learning.specs.Steps.{Whole}
 use Rattle.kernel.proofs.Budgets.{left-over, left-on}
 use Rattle.solver.proofs.Turning.{whole-as, whole-on}
 use Rattle.solver.proofs.search.respond.Needs as need

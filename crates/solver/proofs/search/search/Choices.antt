@@ -1,6 +1,6 @@
 use lib.ListN.{length}
 use Rattle.kernel.specs.Budget.{left}
-use Rattle.solver.specs.Steps.{Whole}
+use Rattle.learning.specs.Steps.{Whole}
 use Rattle.solver.proofs.search.search.Given as given
 
 abbrev pub Inv-turns : given.InvT-turns

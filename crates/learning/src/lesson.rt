@@ -5,13 +5,13 @@ ghost use Rattle.std.specs.Options.{Cases};
 ghost use Rattle.kernel.specs.Arena.{Arena, Header};
 ghost use Rattle.kernel.specs.Resolve.{Blamed};
 ghost use Rattle.kernel.specs.Trail.{State};
-ghost use Rattle.solver.specs.Steps.{Learned, Whole};
+ghost use Rattle.learning.specs.Steps.{Learned, Whole};
 use crate::analyze::find_blame;
 use crate::guide::Guide;
 use crate::guide::release;
 use crate::minimize::drop_zero_marks;
 use crate::minimize::minimize;
-use crate::propagate::reason;
+use crate::propagation::reason;
 use clauses::Literal;
 use kernel::Look;
 use kernel::cover;
@@ -25,9 +25,9 @@ use kernel::store;
 // Where a learned clause leads: the new end of the clauses, and how many literals of the trail to
 // keep, so that all but one of the clause's literals stay false.
 #[derive(Clone, Copy)]
-pub(crate) struct Lesson {
-    pub(crate) low: usize,
-    pub(crate) keep: usize,
+pub struct Lesson {
+    pub low: usize,
+    pub keep: usize,
 }
 
 // The literals of a clause to learn: how many, on how many levels, and the place of the second of
@@ -163,7 +163,7 @@ fn analyze(
 
 // Learns a clause from the clause at c, which is false; none if nothing was learned or there is no
 // room.
-pub(crate) fn learn(
+pub fn learn(
     clauses: &[u32],
     values: &[u32],
     trail: &[u32],
@@ -203,7 +203,7 @@ pub(crate) fn learn(
 }
 
 // Goes back to the first literals that are to be kept, and sets what the clause at c then forces.
-pub(crate) fn jump(
+pub fn jump(
     clauses: &[u32],
     values: &mut [u32],
     trail: &mut [u32],

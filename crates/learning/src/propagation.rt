@@ -9,7 +9,7 @@ ghost use Prim.Native.Nat.{ℕ, _+_, _<_, _≤_};
 ghost use lib.ListN.{length};
 ghost use Rattle.kernel.specs.Arena.{Arena};
 ghost use Rattle.kernel.specs.Trail.{State};
-ghost use Rattle.solver.specs.Steps.{Ran};
+ghost use Rattle.learning.specs.Steps.{Ran};
 use crate::guide::Guide;
 use clauses::Literal;
 use kernel::Look;
@@ -19,9 +19,9 @@ use kernel::is_header;
 
 // How many literals are set, and the place of a clause that is false, if one was met.
 #[derive(Clone, Copy)]
-pub(crate) struct Run {
-    pub(crate) n: usize,
-    pub(crate) conflict: Option<usize>,
+pub struct Run {
+    pub n: usize,
+    pub conflict: Option<usize>,
 }
 
 // The word for the clause at c as a reason: never 0, which is a decision's.
@@ -99,7 +99,7 @@ fn visit_occurrences(
 }
 
 // Follows what the literals from place `from` on force.
-pub(crate) fn propagate(
+pub fn propagate(
     clauses: &[u32],
     values: &mut [u32],
     trail: &mut [u32],
@@ -130,7 +130,7 @@ pub(crate) fn propagate(
 }
 
 // Looks at every clause once, for those that force a literal with nothing set.
-pub(crate) fn settle(
+pub fn settle(
     clauses: &[u32],
     values: &mut [u32],
     trail: &mut [u32],

@@ -6,18 +6,18 @@ use guidance::Phases;
 use guidance::Policy;
 
 #[derive(Drop)]
-pub(crate) struct Guide<'a> {
-    pub(crate) order: Order<'a>,
-    pub(crate) phases: Phases<'a>,
-    pub(crate) lists: Occurrences<'a>,
-    pub(crate) policy: Policy,
+pub struct Guide<'a> {
+    pub order: Order<'a>,
+    pub phases: Phases<'a>,
+    pub lists: Occurrences<'a>,
+    pub policy: Policy,
     // Where the given clauses end in the arena: these are never forgotten.
-    pub(crate) given: usize,
+    pub given: usize,
 }
 
 // The literals of the trail from place `keep` on are about to be freed: their values are saved, and
 // their variables wait to be decided again.
-pub(crate) fn release(g: &mut Guide, trail: &[u32], keep: usize, n: usize) {
+pub fn release(g: &mut Guide, trail: &[u32], keep: usize, n: usize) {
     for p in keep..n {
         if p < trail.len() {
             let x = Literal(trail[p]);

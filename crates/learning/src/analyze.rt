@@ -9,7 +9,7 @@ ghost use lib.ListN.{length};
 ghost use Rattle.std.specs.Options.{Cases};
 ghost use Rattle.kernel.specs.Arena.{Header};
 ghost use Rattle.kernel.specs.Resolve.{Blamed};
-ghost use Rattle.solver.specs.Steps.{Whole};
+ghost use Rattle.learning.specs.Steps.{Whole};
 use crate::guide::Guide;
 use clauses::Literal;
 use kernel::HEADER;

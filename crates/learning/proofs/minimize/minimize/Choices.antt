@@ -1,6 +1,6 @@
 use Prim.Native.Nat.{_≤_}
 use Rattle.kernel.specs.Resolve.{Blamed}
-use Rattle.solver.proofs.analyze.find_blame.Given as given
+use Rattle.learning.proofs.minimize.minimize.Given as given
 
 abbrev pub Inv-loop-p : given.InvT-loop-p
 Inv-loop-p l = Blamed (l .clauses) (l .values) (l .seen) (l .marks) × (l .p ≤ l .n)

@@ -2,7 +2,7 @@ use mathlib.Core.Path.{refl}
 use native.Mathlib.Omega.{arith}
 use Rattle.kernel.proofs.Trails.{own-values}
 use Rattle.kernel.proofs.Zeros.{zeros-all}
-use Rattle.solver.proofs.analyze.find_blame.Needs as need
+use Rattle.learning.proofs.analyze.find_blame.Needs as need
 
 pub absorb-requires : need.absorb-requires
 absorb-requires c κs =

@@ -1,0 +1,2 @@
+-- What propagation and learning promise.
+pub mod Steps
