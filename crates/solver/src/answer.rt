@@ -2,7 +2,7 @@
 //
 // The variables are numbered inside by those that occur, so the arrays over variables are no longer
 // than the clauses are: each variable that occurs brings 32 words at least, of which the arrays over
-// variables take 13. What is left is for the clauses and their occurrence lists.
+// variables take 12. What is left is for the clauses and their occurrence lists.
 ghost use Prim.Native.Nat.{ℕ, _+_, _*_, _^_, _<_, _≤_};
 ghost use mathlib.Core.Path.{_≡_};
 ghost use mathlib.Core.Bool.{false};
