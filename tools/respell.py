@@ -24,6 +24,8 @@ LEMMAS = {
         "parts-write token-of width-of xor-rows"
     ).split()
 }
+# Facts that would get the name of a Rust struct beside them.
+FACTS = re.compile("[A-Z][a-z]*-read")
 NO_NAMES = {"use", "module", "mod", "pub", "where", "unfolding", "open", "record", "data", "abbrev", "in", "--"}
 
 
@@ -31,6 +33,8 @@ def spelled(name):
     """The name as it is spelled today: a function of the name alone."""
     if name in LEMMAS:
         return LEMMAS[name]
+    if FACTS.fullmatch(name):
+        name = "Is-" + name
     name = name.replace("getD", "get-or")
     parts = name.split("-")
     if name[0].isupper():
@@ -77,29 +81,37 @@ def turn_code(text, names, fields):
 def turn(path, names, fields):
     """A file's text, its comments left but for names in camel case or between back quotes."""
     mark = "--" if path.endswith(".antt") else "//"
-    plain = {n for n in names | fields if re.search("[a-z][A-Z]", n)}
     out = []
     with open(path, encoding="utf-8") as f:
-        for line in f.read().split("\n"):
-            at = line.find(mark)
-            while at > 0 and line[at - 1] not in " ":
-                at = line.find(mark, at + 1)
-            code, said = (line, "") if at < 0 else (line[:at], line[at:])
-            if path.endswith(".rt") and '"' in code:
-                out.append(line)
-                continue
-            out.append(turn_code(code, names, fields) + turn_code(said, plain, plain))
+        text = f.read()
+    names = names - imported(text)
+    plain = {n for n in names | fields if re.search("[a-z][A-Z]", n)}
+    for line in text.split("\n"):
+        at = line.find(mark)
+        while at > 0 and line[at - 1] not in " ":
+            at = line.find(mark, at + 1)
+        code, said = (line, "") if at < 0 else (line[:at], line[at:])
+        if path.endswith(".rt") and '"' in code:
+            out.append(line)
+            continue
+        out.append(turn_code(code, names, fields) + turn_code(said, plain, plain))
     return "\n".join(out)
+
+
+def imported(text):
+    """The names that a file imports from a library."""
+    imports = set()
+    for m in re.finditer(r"^(?:ghost )?use (?:Rattle\.std|lib|native|mathlib|Prim)[^\n]*\{([^}]*)\}", text, re.M):
+        imports |= {w.split(" as ")[-1].strip() for w in m.group(1).split(",")}
+    return imports
 
 
 def hidden(path, turned):
     """Says where a name that is turned would be one that the file imports from a library."""
     with open(path, encoding="utf-8") as f:
         text = f.read()
-    imports = set()
-    for m in re.finditer(r"^(?:ghost )?use (?:Rattle\.std|lib|native|mathlib|Prim)[^\n]*\{([^}]*)\}", text, re.M):
-        imports |= {w.split(" as ")[-1].strip() for w in m.group(1).split(",")}
-    for w in sorted(set(re.findall(r"[A-Za-z][A-Za-z0-9_'-]*", text)) & turned):
+    imports = imported(text)
+    for w in sorted(set(re.findall(r"[A-Za-z][A-Za-z0-9_'-]*", text)) & turned - imports):
         if spelled(w) in imports:
             raise SystemExit(f"{path}: {w} would be the library's {spelled(w)}")
 

@@ -14,7 +14,7 @@ use Rattle.book.specs.declared.token.Token.{Token}
 use Rattle.book.specs.declared.token.Token.TheVariants as token
 use Rattle.book.specs.Text.{decimal, words, write_terms, write_rule, write_book, ok_rules, Book}
 use Rattle.book.specs.Scan.{rest, Found, At}
-use Rattle.book.specs.Reading.{NumberRead, NoNumber, TermsRead, NoTerms, HeaderRead, NoHeader, RuleRead, NoRule, RulesRead}
+use Rattle.book.specs.Reading.{IsNumberRead, NoNumber, IsTermsRead, NoTerms, IsHeaderRead, NoHeader, IsRuleRead, NoRule, IsRulesRead}
 use Rattle.book.proofs.Unique.{first_same, rest_same, never_empty, decimal_same}
 use Rattle.book.proofs.Books.{limits, length_terms, width_same, bits_short, one_rule, book_begins, no_rules}
 use Rattle.book.proofs.TermReads.{token_at}
@@ -22,7 +22,7 @@ use Rattle.book.proofs.TermReads.{token_at}
 -- ---- the head of a rule
 
 -- a number that was read is the number that is written there
-number_same : (s : List ℕ) (p q n m : ℕ) (r : List (List ℕ)) → NumberRead s p n q → m < 2 ^ 64 → rest s p ≡ decimal m ∷ r → (n ≡ m) × (rest s q ≡ r)
+number_same : (s : List ℕ) (p q n m : ℕ) (r : List (List ℕ)) → IsNumberRead s p n q → m < 2 ^ 64 → rest s p ≡ decimal m ∷ r → (n ≡ m) × (rest s q ≡ r)
 number_same s p q n m r num small h =
     let k = num.small in
     let e = sym num.text ∙ h in
@@ -37,23 +37,23 @@ rule_expected s p q t f none v n r few h = none (token_at s p q t token.Rule (co
 pub width_no_number : (s : List ℕ) (p m : ℕ) → At s p token.Rule m → NoNumber s m → NoHeader s p
 width_no_number s p m f none v n r few h = none (bits v) (decimal n ∷ r) (bits_small v) (token_at s p m token.Rule token.Rule (codes "rule") _ f refl h).1
 
-pub width_expected : (s : List ℕ) (p m q b : ℕ) → At s p token.Rule m → NumberRead s m b q → ((v : Width) → bits v ≡ b → ⊥) → NoHeader s p
+pub width_expected : (s : List ℕ) (p m q b : ℕ) → At s p token.Rule m → IsNumberRead s m b q → ((v : Width) → bits v ≡ b → ⊥) → NoHeader s p
 width_expected s p m q b f num none v n r few h =
     none v (sym (number_same s m q b (bits v) _ num (bits_small v) (token_at s p m token.Rule token.Rule (codes "rule") _ f refl h).1).0)
 
 -- the words after the width
-after_width : (s : List ℕ) (p m q b n : ℕ) (v : Width) (r : List (List ℕ)) → At s p token.Rule m → NumberRead s m b q → rest s p ≡ codes "rule" ∷ decimal (bits v) ∷ decimal n ∷ r → rest s q ≡ decimal n ∷ r
+after_width : (s : List ℕ) (p m q b n : ℕ) (v : Width) (r : List (List ℕ)) → At s p token.Rule m → IsNumberRead s m b q → rest s p ≡ codes "rule" ∷ decimal (bits v) ∷ decimal n ∷ r → rest s q ≡ decimal n ∷ r
 after_width s p m q b n v r f num h = (number_same s m q b (bits v) _ num (bits_small v) (token_at s p m token.Rule token.Rule (codes "rule") _ f refl h).1).1
 
-pub needed_no_number : (s : List ℕ) (p m q b : ℕ) → At s p token.Rule m → NumberRead s m b q → NoNumber s q → NoHeader s p
+pub needed_no_number : (s : List ℕ) (p m q b : ℕ) → At s p token.Rule m → IsNumberRead s m b q → NoNumber s q → NoHeader s p
 needed_no_number s p m q b f num none v n r few h = none n r (omega arith) (after_width s p m q b n v r f num h)
 
-pub needed_expected : (s : List ℕ) (p m q z b k : ℕ) → At s p token.Rule m → NumberRead s m b q → NumberRead s q k z → 4 < k → NoHeader s p
+pub needed_expected : (s : List ℕ) (p m q z b k : ℕ) → At s p token.Rule m → IsNumberRead s m b q → IsNumberRead s q k z → 4 < k → NoHeader s p
 needed_expected s p m q z b k f num num' large v n r few h =
     let e = (number_same s q z k n r num' (omega arith) (after_width s p m q b n v r f num h)).0 in
     omega arith
 
-pub header_read : (s : List ℕ) (p m q z b k : ℕ) (v : Width) → At s p token.Rule m → NumberRead s m b q → bits v ≡ b → NumberRead s q k z → k ≤ 4 → HeaderRead s p v k z
+pub header_read : (s : List ℕ) (p m q z b k : ℕ) (v : Width) → At s p token.Rule m → IsNumberRead s m b q → bits v ≡ b → IsNumberRead s q k z → k ≤ 4 → IsHeaderRead s p v k z
 header_read s p m q z b k v f num e num' few =
     let l₁ = f.longer in
     let l₂ = num.longer in
@@ -70,7 +70,7 @@ header_read s p m q z b k v f num e num' few =
 pub no_header : (s : List ℕ) (p : ℕ) → NoHeader s p → NoRule s p
 no_header s p none r ws ok h = none r.width (length r.needs) (write_terms (terms r) ++ ws) (limits r ok).few h
 
-pub no_terms : (s : List ℕ) (p m n : ℕ) (v : Width) → HeaderRead s p v n m → NoTerms s m (n + 2) 32 v → NoRule s p
+pub no_terms : (s : List ℕ) (p m n : ℕ) (v : Width) → IsHeaderRead s p v n m → NoTerms s m (n + 2) 32 v → NoRule s p
 no_terms s p m n v f none r ws ok h =
     let l = limits r ok in
     let few-n = f.few in
@@ -94,7 +94,7 @@ split_terms (suc n) (e ∷ es) h =
     let k = r.3 in
     (e ∷ r.0, r.1, r.2, omega arith, ap (λ l. e ∷ l) r.4)
 
-pub rule_read : (s : List ℕ) (p m q n left : ℕ) (v : Width) (x y z : RuleNodes) (roots : List ℕ) → HeaderRead s p v n m → TermsRead s m (n + 2) 32 x y roots q left → x.width ≡ v → x.needed ≡ n → z.width ≡ y.width → z.needed ≡ y.needed → z.nodes ≡ y.nodes → z.len ≡ y.len → z.roots ≡ roots → RuleRead s p z q
+pub rule_read : (s : List ℕ) (p m q n left : ℕ) (v : Width) (x y z : RuleNodes) (roots : List ℕ) → IsHeaderRead s p v n m → IsTermsRead s m (n + 2) 32 x y roots q left → x.width ≡ v → x.needed ≡ n → z.width ≡ y.width → z.needed ≡ y.needed → z.nodes ≡ y.nodes → z.len ≡ y.len → z.roots ≡ roots → IsRuleRead s p z q
 rule_read s p m q n left v x y z roots f t xw xn zw zn znodes zlen zroots =
     let parts = split_terms n t.terms t.count in
     let r : Rule = record { width = v; needs = parts.0; from = parts.1; to = parts.2 } in
@@ -133,10 +133,10 @@ ok_rules_after : (rs cs : List Rule) → ok_rules (rs ++ cs) ≡ true → ok_rul
 ok_rules_after [] cs h = h
 ok_rules_after (r ∷ rs) cs h = ok_rules_after rs cs (and_parts _ _ h).1
 
-pub no_rules_yet : (s : List ℕ) → RulesRead s 0 0
+pub no_rules_yet : (s : List ℕ) → IsRulesRead s 0 0
 no_rules_yet s = record { rules = []; count = refl; text = refl; ok = refl; few = omega arith; within = omega arith }
 
-pub one_rule_more : (s : List ℕ) (p q n : ℕ) (x : RuleNodes) → RulesRead s p n → n < 256 → RuleRead s p x q → RulesRead s q (n + 1)
+pub one_rule_more : (s : List ℕ) (p q n : ℕ) (x : RuleNodes) → IsRulesRead s p n → n < 256 → IsRuleRead s p x q → IsRulesRead s q (n + 1)
 one_rule_more s p q n x rs lt r =
     let count = rs.count in
     record {
@@ -149,14 +149,14 @@ one_rule_more s p q n x rs lt r =
     }
 
 -- at the end the rules are the book
-pub book_read : (s : List ℕ) (p n : ℕ) → RulesRead s p n → rest s p ≡ [] → (rs : List Rule) × Book s rs × (length rs ≡ n)
+pub book_read : (s : List ℕ) (p n : ℕ) → IsRulesRead s p n → rest s p ≡ [] → (rs : List Rule) × Book s rs × (length rs ≡ n)
 book_read s p n rs h =
     let count = rs.count in
     let few = rs.few in
     (rs.rules, record { text = rs.text ∙ ap (λ ws. write_book rs.rules ++ ws) h ∙ append-nil (write_book rs.rules); ok = and_from _ _ rs.ok (le-leb (length rs.rules) 256 (omega arith)) }, count)
 
 -- the rules of a book that come after those that were read
-after_rules : (s : List ℕ) (p n : ℕ) (rs : RulesRead s p n) (bs : List Rule) → Book s bs → (cs : List Rule) × (bs ≡ rs.rules ++ cs) × (rest s p ≡ write_book cs)
+after_rules : (s : List ℕ) (p n : ℕ) (rs : IsRulesRead s p n) (bs : List Rule) → Book s bs → (cs : List Rule) × (bs ≡ rs.rules ++ cs) × (rest s p ≡ write_book cs)
 after_rules s p n rs bs b = book_begins rs.rules bs (rest s p) rs.ok (and_parts _ _ b.ok).0 (sym rs.text ∙ b.text)
 
 some_rule : (cs : List Rule) (ws : List (List ℕ)) → ws ≡ write_book cs → (ws ≡ [] → ⊥) → (r : Rule) × (rs : List Rule) × (cs ≡ r ∷ rs)
@@ -164,7 +164,7 @@ some_rule [] ws e more = absurd (more e)
 some_rule (r ∷ cs) ws e more = (r, cs, refl)
 
 -- where no rule can be read though words are left, the text is no book
-pub no_rule_no_book : (s : List ℕ) (p n : ℕ) → RulesRead s p n → (rest s p ≡ [] → ⊥) → NoRule s p → (bs : List Rule) → Book s bs → ⊥
+pub no_rule_no_book : (s : List ℕ) (p n : ℕ) → IsRulesRead s p n → (rest s p ≡ [] → ⊥) → NoRule s p → (bs : List Rule) → Book s bs → ⊥
 no_rule_no_book s p n rs more none bs b =
     let a = after_rules s p n rs bs b in
     let c = some_rule a.0 (rest s p) a.2 more in
@@ -175,7 +175,7 @@ pub book_few : (s : List ℕ) (bs : List Rule) → Book s bs → length bs ≤ 2
 book_few s bs b = leb-true (length bs) 256 (and_parts _ _ b.ok).1
 
 -- where words are left after 256 rules, the text is no book
-pub too_many_no_book : (s : List ℕ) (p n : ℕ) → RulesRead s p n → (rest s p ≡ [] → ⊥) → n ≡ 256 → (bs : List Rule) → Book s bs → ⊥
+pub too_many_no_book : (s : List ℕ) (p n : ℕ) → IsRulesRead s p n → (rest s p ≡ [] → ⊥) → n ≡ 256 → (bs : List Rule) → Book s bs → ⊥
 too_many_no_book s p n rs more full bs b =
     let a = after_rules s p n rs bs b in
     let c = some_rule a.0 (rest s p) a.2 more in
@@ -185,7 +185,7 @@ too_many_no_book s p n rs more full bs b =
     omega arith
 
 -- where a book has more rules than were read, one can be read
-pub rule_there : (s : List ℕ) (p n : ℕ) → RulesRead s p n → (bs : List Rule) → Book s bs → n < length bs → NoRule s p → ⊥
+pub rule_there : (s : List ℕ) (p n : ℕ) → IsRulesRead s p n → (bs : List Rule) → Book s bs → n < length bs → NoRule s p → ⊥
 rule_there s p n rs bs b lt none =
     let a = after_rules s p n rs bs b in
     let count = rs.count in
@@ -197,7 +197,7 @@ first_rule : (r : Rule) (cs : List Rule) (ws : List (List ℕ)) → ok_rule r �
 first_rule r [] ws h k e = absurd (never_empty _ _ e)
 first_rule r (c ∷ cs) ws h k e = let p = one_rule r c ws (write_book cs) h (and_parts _ _ k).0 e in (cs, ap (λ x. x ∷ cs) (sym p.0))
 
-pub next_rule : (s : List ℕ) (p q n : ℕ) (x : RuleNodes) → RulesRead s p n → (r : RuleRead s p x q) → (bs : List Rule) → Book s bs → take (n + 1) bs ≡ take n bs ++ (r.rule ∷ [])
+pub next_rule : (s : List ℕ) (p q n : ℕ) (x : RuleNodes) → IsRulesRead s p n → (r : IsRuleRead s p x q) → (bs : List Rule) → Book s bs → take (n + 1) bs ≡ take n bs ++ (r.rule ∷ [])
 next_rule s p q n x rs r bs b =
     let a = after_rules s p n rs bs b in
     let ok = ok_rules_after rs.rules a.0 (subst (λ l. ok_rules l ≡ true) a.1 (and_parts _ _ b.ok).0) in

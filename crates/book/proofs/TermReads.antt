@@ -20,7 +20,7 @@ use Rattle.book.specs.declared.token.Token.TheVariants as token
 use Rattle.book.specs.Text.{decimal, write_term, write_terms}
 use Rattle.book.specs.Tokens.{leaf_name, leaf_term, leaf_node, operation_name, operation_node, arity, applied, Writes, Is}
 use Rattle.book.specs.Scan.{rest, Found, At}
-use Rattle.book.specs.Reading.{NumberRead, NoNumber, Kept, Pushed, LeafRead, NoLeaf, TermRead, NoTerm, TermsRead, NoTerms}
+use Rattle.book.specs.Reading.{IsNumberRead, NoNumber, Kept, Pushed, IsLeafRead, NoLeaf, IsTermRead, NoTerm, IsTermsRead, NoTerms}
 use Rattle.book.proofs.Tokens.{one_token}
 use Rattle.book.proofs.Unique.{first_same, rest_same, never_empty, head, head_writes, Begins, begins, Parts, one, two, three, parts, applied_writes, applied_ok, applied_ops, list_begins, one_list, decimal_same}
 use Rattle.book.proofs.Places.{stands_kept, rooted_more, pushed_kept, kept_refl, kept_trans}
@@ -96,7 +96,7 @@ leaf_small W16 Lit n h = let k = ltb-true n (2 ^ 16) h in omega arith
 leaf_small W32 Lit n h = let k = ltb-true n (2 ^ 32) h in omega arith
 leaf_small W64 Lit n h = let k = ltb-true n (2 ^ 64) h in omega arith
 
-pub leaf_read : (s : List ℕ) (p m q left root : ℕ) (l : Leaf) (x x' : RuleNodes) → At s p (token.Leaf l) m → LeafRead s m l x x' root q → TermRead s p left x x' root q left
+pub leaf_read : (s : List ℕ) (p m q left root : ℕ) (l : Leaf) (x x' : RuleNodes) → At s p (token.Leaf l) m → IsLeafRead s m l x x' root q → IsTermRead s p left x x' root q left
 leaf_read s p m q left root l x x' f t =
     let n = t.number in
     let none = leaf_ops l n in
@@ -126,7 +126,7 @@ leaf_missing s p m left l v f none e r ok small h =
 pub leaf_no_number : (s : List ℕ) (p : ℕ) (l : Leaf) (v : Width) → NoNumber s p → NoLeaf s p l v
 leaf_no_number s p l v none n r ok h = none n r (leaf_small v l n ok) h
 
-pub leaf_too_large : (s : List ℕ) (p q n : ℕ) (l : Leaf) (v : Width) → NumberRead s p n q → ok_term (bits v) (leaf_term l n) ≡ false → NoLeaf s p l v
+pub leaf_too_large : (s : List ℕ) (p q n : ℕ) (l : Leaf) (v : Width) → IsNumberRead s p n q → ok_term (bits v) (leaf_term l n) ≡ false → NoLeaf s p l v
 leaf_too_large s p q n l v num bad m r ok h =
     let small_n = num.small in
     let small-m = leaf_small v l m ok in
@@ -162,7 +162,7 @@ arity_few (Unary o) = omega arith
 arity_few (Binary o) = omega arith
 arity_few Ite = omega arith
 
-pub operation_read : (s : List ℕ) (p m q left left' : ℕ) (o : Operation) (x y z : RuleNodes) (roots : List ℕ) → At s p (token.Operation o) m → TermsRead s m (arity o) left x y roots q left' → Pushed y z (operation_node o roots) → TermRead s p (left + 1) x z y.len q left'
+pub operation_read : (s : List ℕ) (p m q left left' : ℕ) (o : Operation) (x y z : RuleNodes) (roots : List ℕ) → At s p (token.Operation o) m → IsTermsRead s m (arity o) left x y roots q left' → Pushed y z (operation_node o roots) → IsTermRead s p (left + 1) x z y.len q left'
 operation_read s p m q left left' o x y z roots f t push =
     let es = t.terms in
     let view = parts o es t.count in
@@ -226,7 +226,7 @@ zeros zero k = refl
 zeros (suc n) zero = refl
 zeros (suc n) (suc k) = zeros n k
 
-pub no_terms_yet : (s : List ℕ) (p left : ℕ) (x : RuleNodes) → p ≤ length s → TermsRead s p 0 left x x (replicate 6 0) p left
+pub no_terms_yet : (s : List ℕ) (p left : ℕ) (x : RuleNodes) → p ≤ length s → IsTermsRead s p 0 left x x (replicate 6 0) p left
 no_terms_yet s p left x le =
     record {
       terms = [];
@@ -243,7 +243,7 @@ no_terms_yet s p left x le =
       size = omega arith;
     }
 
-pub one_term_more : (s : List ℕ) (p q q' n left left' left'' root : ℕ) (x y z : RuleNodes) (roots : List ℕ) → n < 6 → z.len ≤ 102 → TermsRead s p n left x y roots q left' → TermRead s q left' y z root q' left'' → TermsRead s p (n + 1) left x z (set roots n root) q' left''
+pub one_term_more : (s : List ℕ) (p q q' n left left' left'' root : ℕ) (x y z : RuleNodes) (roots : List ℕ) → n < 6 → z.len ≤ 102 → IsTermsRead s p n left x y roots q left' → IsTermRead s q left' y z root q' left'' → IsTermsRead s p (n + 1) left x z (set roots n root) q' left''
 one_term_more s p q q' n left left' left'' root x y z roots lt fits t u =
     let es = t.terms in
     let e = u.term in
@@ -280,7 +280,7 @@ one_term_more s p q q' n left left' left'' root x y z roots lt fits t u =
     }
 
 -- where one term of several can't be read, the several can't
-pub one_term_missing : (s : List ℕ) (p q n m left left' : ℕ) (x y : RuleNodes) (roots : List ℕ) → n < m → TermsRead s p n left x y roots q left' → NoTerm s q left' y.width → NoTerms s p m left x.width
+pub one_term_missing : (s : List ℕ) (p q n m left left' : ℕ) (x y : RuleNodes) (roots : List ℕ) → n < m → IsTermsRead s p n left x y roots q left' → NoTerm s q left' y.width → NoTerms s p m left x.width
 one_term_missing s p q n m left left' x y roots lt t none es r count ok small h =
     let done = t.count in
     let a = t.counted in

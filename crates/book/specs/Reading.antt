@@ -16,7 +16,7 @@ use Rattle.book.specs.Tokens.{leaf_term, leaf_node}
 use Rattle.book.specs.Scan.{rest}
 
 -- from p to q the text s has the number n; from p on it has none below 2 ^ 64
-pub record NumberRead (s : List ℕ) (p n q : ℕ) : Type 0 where
+pub record IsNumberRead (s : List ℕ) (p n q : ℕ) : Type 0 where
   pub text : rest s p ≡ decimal n ∷ rest s q
   pub small : n < 2 ^ 64
   pub longer : p < q
@@ -41,9 +41,9 @@ pub record Pushed (x x' : RuleNodes) (node : Node) : Type 0 where
   pub needed : x'.needed ≡ x.needed
 
 -- from p to q the text has the number of a leaf of this kind, whose node is added
-pub record LeafRead (s : List ℕ) (p : ℕ) (l : Leaf) (x x' : RuleNodes) (root q : ℕ) : Type 0 where
+pub record IsLeafRead (s : List ℕ) (p : ℕ) (l : Leaf) (x x' : RuleNodes) (root q : ℕ) : Type 0 where
   pub number : ℕ
-  pub read : NumberRead s p number q
+  pub read : IsNumberRead s p number q
   pub ok : ok_term (bits x.width) (leaf_term l number) ≡ true
   pub pushed : Pushed x x' (leaf_node l number)
   pub last : root ≡ x.len
@@ -52,7 +52,7 @@ abbrev pub NoLeaf : List ℕ → ℕ → Leaf → Width → Type 0
 NoLeaf s p l v = (n : ℕ) (r : List (List ℕ)) → ok_term (bits v) (leaf_term l n) ≡ true → rest s p ≢ decimal n ∷ r
 
 -- from p to q the text has a term of at most so many operations, of which some are left; it is the node at the root
-pub record TermRead (s : List ℕ) (p left : ℕ) (x x' : RuleNodes) (root q left' : ℕ) : Type 0 where
+pub record IsTermRead (s : List ℕ) (p left : ℕ) (x x' : RuleNodes) (root q left' : ℕ) : Type 0 where
   pub term : Term
   pub text : rest s p ≡ write_term term ++ rest s q
   pub ok : ok_term (bits x.width) term ≡ true
@@ -68,7 +68,7 @@ abbrev pub NoTerm : List ℕ → ℕ → ℕ → Width → Type 0
 NoTerm s p left v = (e : Term) (r : List (List ℕ)) → ok_term (bits v) e ≡ true → ops e ≤ left → rest s p ≢ write_term e ++ r
 
 -- the same of n terms
-pub record TermsRead (s : List ℕ) (p n left : ℕ) (x x' : RuleNodes) (roots : List ℕ) (q left' : ℕ) : Type 0 where
+pub record IsTermsRead (s : List ℕ) (p n left : ℕ) (x x' : RuleNodes) (roots : List ℕ) (q left' : ℕ) : Type 0 where
   pub terms : List Term
   pub count : length terms ≡ n
   pub text : rest s p ≡ write_terms terms ++ rest s q
@@ -86,7 +86,7 @@ abbrev pub NoTerms : List ℕ → ℕ → ℕ → ℕ → Width → Type 0
 NoTerms s p n left v = (es : List Term) (r : List (List ℕ)) → length es ≡ n → ok_terms (bits v) es ≡ true → ops_all es ≤ left → rest s p ≢ write_terms es ++ r
 
 -- from p to q the text has the head of a rule: its width, and how many terms it needs, at most four; from p on it has none
-pub record HeaderRead (s : List ℕ) (p : ℕ) (v : Width) (n q : ℕ) : Type 0 where
+pub record IsHeaderRead (s : List ℕ) (p : ℕ) (v : Width) (n q : ℕ) : Type 0 where
   pub text : rest s p ≡ codes "rule" ∷ decimal (bits v) ∷ decimal n ∷ rest s q
   pub few : n ≤ 4
   pub longer : p < q
@@ -96,7 +96,7 @@ abbrev pub NoHeader : List ℕ → ℕ → Type 0
 NoHeader s p = (v : Width) (n : ℕ) (r : List (List ℕ)) → n ≤ 4 → rest s p ≢ codes "rule" ∷ decimal (bits v) ∷ decimal n ∷ r
 
 -- from p to q the text has a rule within the limits, and these are its nodes; from p on it has none
-pub record RuleRead (s : List ℕ) (p : ℕ) (x : RuleNodes) (q : ℕ) : Type 0 where
+pub record IsRuleRead (s : List ℕ) (p : ℕ) (x : RuleNodes) (q : ℕ) : Type 0 where
   pub rule : Rule
   pub text : rest s p ≡ write_rule rule ++ rest s q
   pub ok : ok_rule rule ≡ true
@@ -108,7 +108,7 @@ abbrev pub NoRule : List ℕ → ℕ → Type 0
 NoRule s p = (r : Rule) (ws : List (List ℕ)) → ok_rule r ≡ true → rest s p ≢ write_rule r ++ ws
 
 -- up to p the text s has so many rules within the limits
-pub record RulesRead (s : List ℕ) (p n : ℕ) : Type 0 where
+pub record IsRulesRead (s : List ℕ) (p n : ℕ) : Type 0 where
   pub rules : List Rule
   pub count : length rules ≡ n
   pub text : words s ≡ write_book rules ++ rest s p
@@ -117,6 +117,6 @@ pub record RulesRead (s : List ℕ) (p n : ℕ) : Type 0 where
   pub within : p ≤ length s
 
 -- What comes of reading a text: it is a book of so many rules, or none; and it is one book at most.
-pub record BookRead (s : List ℕ) (r : Result ℕ Fault) : Type 0 where
+pub record IsBookRead (s : List ℕ) (r : Result ℕ Fault) : Type 0 where
   pub says : MatchResult r (λ n. (rs : List Rule) × Book s rs × (length rs ≡ n)) (λ _. (rs : List Rule) → Book s rs → ⊥)
   pub one : OneBook s

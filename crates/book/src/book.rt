@@ -1,7 +1,7 @@
 // Reading a whole book.
 ghost use Rattle.std.specs.Prelude.{◌≡◌, ◌≤◌, [], length, Decides};
 ghost use Rattle.book.specs.Scan.{rest};
-ghost use Rattle.book.specs.Reading.{BookRead};
+ghost use Rattle.book.specs.Reading.{IsBookRead};
 
 use crate::fault::{Fault, Reason};
 use crate::rule::read_rule;
@@ -21,7 +21,7 @@ fn at_end(text: &[u8], at: usize) -> bool
 
 // How many rules a text has, if it is a book.
 pub fn read_book(text: &[u8]) -> Result<usize, Fault>
-    ensures { BookRead text.now result }
+    ensures { IsBookRead text.now result }
 {
     let mut at = 0;
     let mut count = 0;

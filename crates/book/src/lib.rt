@@ -1,4 +1,6 @@
 // The text of a rule book: reading it, and whether it is one.
+#![tactic(auto)]
+
 mod book;
 mod fault;
 mod name;

@@ -1,6 +1,6 @@
 // Reading a rule.
 ghost use Rattle.std.specs.Prelude.{◌≤◌, length, MatchResult};
-ghost use Rattle.book.specs.Reading.{HeaderRead, NoHeader, RuleRead, NoRule};
+ghost use Rattle.book.specs.Reading.{IsHeaderRead, NoHeader, IsRuleRead, NoRule};
 
 use crate::fault::{Fault, Reason};
 use crate::scan::next_word;
@@ -27,7 +27,7 @@ pub struct RuleRead {
 // Reads the words before a rule's terms.
 fn read_header(text: &[u8], at: usize) -> Result<Header, Fault>
     requires { at ≤ length text.now }
-    ensures { MatchResult result (λ h. HeaderRead text.now at h.width h.needed h.end) (λ _. NoHeader text.now at) }
+    ensures { MatchResult result (λ h. IsHeaderRead text.now at h.width h.needed h.end) (λ _. NoHeader text.now at) }
 {
     let word = next_word(text, at);
     let Token::Rule = word.token else {
@@ -60,7 +60,7 @@ fn read_header(text: &[u8], at: usize) -> Result<Header, Fault>
 // Reads a rule.
 pub fn read_rule(text: &[u8], at: usize) -> Result<RuleRead, Fault>
     requires { at ≤ length text.now }
-    ensures { MatchResult result (λ x. RuleRead text.now at x.rule x.end) (λ _. NoRule text.now at) }
+    ensures { MatchResult result (λ x. IsRuleRead text.now at x.rule x.end) (λ _. NoRule text.now at) }
 {
     let header = read_header(text, at)?;
     let mut rule = RuleNodes::new(header.width, header.needed);

@@ -7,7 +7,7 @@ ghost use Rattle.std.specs.Prelude.{◌≡◌, ℕ, ◌+◌, ◌*◌, ◌^◌, �
 ghost use Rattle.words.specs.Words.{bits};
 ghost use Rattle.terms.specs.Limits.{ok_term};
 ghost use Rattle.book.specs.Tokens.{arity, leaf_term, leaf_node, operation_node};
-ghost use Rattle.book.specs.Reading.{NumberRead, NoNumber, LeafRead, NoLeaf, TermRead, NoTerm, TermsRead, NoTerms};
+ghost use Rattle.book.specs.Reading.{IsNumberRead, NoNumber, IsLeafRead, NoLeaf, IsTermRead, NoTerm, IsTermsRead, NoTerms};
 
 use crate::fault::{Fault, Reason};
 use crate::scan::next_word;
@@ -42,7 +42,7 @@ pub(crate) struct TermsRead {
 // Reads a number.
 pub(crate) fn read_number(text: &[u8], at: usize) -> Result<Numeral, Fault>
     requires { at ≤ length text.now }
-    ensures { MatchResult result (λ n. NumberRead text.now at n.value n.end) (λ _. NoNumber text.now at) }
+    ensures { MatchResult result (λ n. IsNumberRead text.now at n.value n.end) (λ _. NoNumber text.now at) }
 {
     let word = next_word(text, at);
     match word.token {
@@ -109,7 +109,7 @@ fn read_leaf(
     rule: &mut RuleNodes,
 ) -> Result<TermRead, Fault>
     requires { (at ≤ length text.now) × (rule.old.len < 102) }
-    ensures { MatchResult result (λ t. LeafRead text.now at leaf rule.old rule.new t.root t.end × (t.left ≡ left)) (λ _. NoLeaf text.now at leaf rule.old.width) }
+    ensures { MatchResult result (λ t. IsLeafRead text.now at leaf rule.old rule.new t.root t.end × (t.left ≡ left)) (λ _. NoLeaf text.now at leaf rule.old.width) }
 {
     let number = read_number(text, at)?;
     if number.value > largest(leaf, rule.width) {
@@ -130,7 +130,7 @@ fn read_leaf(
 #[cycle(read_term_read_terms)]
 fn read_term(text: &[u8], at: usize, left: usize, rule: &mut RuleNodes) -> Result<TermRead, Fault>
     requires { (at ≤ length text.now) × (rule.old.len + (3 * left + 1) ≤ 102) }
-    ensures { MatchResult result (λ t. TermRead text.now at left rule.old rule.new t.root t.end t.left) (λ _. NoTerm text.now at left rule.old.width) }
+    ensures { MatchResult result (λ t. IsTermRead text.now at left rule.old rule.new t.root t.end t.left) (λ _. NoTerm text.now at left rule.old.width) }
 {
     let word = next_word(text, at);
     match word.token {
@@ -167,7 +167,7 @@ pub(crate) fn read_terms(
     rule: &mut RuleNodes,
 ) -> Result<TermsRead, Fault>
     requires { (at ≤ length text.now) × ((count ≤ 6) × (rule.old.len + (3 * left + count) ≤ 102)) }
-    ensures { MatchResult result (λ t. TermsRead text.now at count left rule.old rule.new t.roots t.end t.left) (λ _. NoTerms text.now at count left rule.old.width) }
+    ensures { MatchResult result (λ t. IsTermsRead text.now at count left rule.old rule.new t.roots t.end t.left) (λ _. NoTerms text.now at count left rule.old.width) }
 {
     let mut roots = [0usize; 6];
     let mut end = at;

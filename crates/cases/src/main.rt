@@ -1,5 +1,7 @@
 // Texts at the edges of what a book is, each with what reading says of it. What is printed is held to
 // the file of expected lines beside this program.
+#![tactic(auto)]
+
 ghost use Rattle.cases.specs.Worked.{Worked};
 
 use book::{locate, read_book};

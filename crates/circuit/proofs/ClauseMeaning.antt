@@ -1,6 +1,6 @@
 -- Clauses that hold of words, with no new variable: each list of them says exactly one test on bits.
 use Rattle.std.proofs.Common.{◌≡◌, ℕ, Bool, true, false, not, ◌&&◌, ◌||◌, List, [], ◌∷◌, map, sym, refl, ap, ◌∙◌, ap₂, arith}
-use mathlib.Core.Bool.{or_false, or_true, and_assoc, or-and_distrib_left}
+use mathlib.Core.Bool.{or-false, or-true, and_assoc, or-and_distrib_left}
 use Rattle.std.proofs.lemmas.Bool.{and_parts, and_from}
 use Rattle.words.specs.Words.{xor}
 use Rattle.clauses.specs.declared.literal.Literal.{Literal}
@@ -58,7 +58,7 @@ below_said {n} {m} c ls b = word_lift n.next m.next (omega (arith, c.next)) ls b
 module _ {n : Net} (w : Whole n) where
   -- one literal is false; not both, and one of two
   pub says_not : {l : Literal} → Below n.next l.0 → Says n (said (negated l ∷ []) n) (λ s. not (truth_of s l))
-  says_not {l} b = says_as (λ s h. or_false _ ∙ truth_negated s l) (says_one (negated l ∷ []) w (below_negated _ l b, tt))
+  says_not {l} b = says_as (λ s h. or-false _ ∙ truth_negated s l) (says_one (negated l ∷ []) w (below_negated _ l b, tt))
 
   says_apart : {a b : Literal} → Below n.next a.0 → Below n.next b.0 → Says n (said (negated a ∷ negated b ∷ []) n) (λ s. not (truth_of s a && truth_of s b))
   says_apart {a} {b} ba bb =
@@ -66,11 +66,11 @@ module _ {n : Net} (w : Whole n) where
       (says_one (negated a ∷ negated b ∷ []) w (below_negated _ a ba, (below_negated _ b bb, tt)))
     where
       nand : (x y : Bool) → (not x || (not y || false)) ≡ not (x && y)
-      nand true y = or_false (not y)
+      nand true y = or-false (not y)
       nand false y = refl
 
   pub says_either : {a b : Literal} → Below n.next a.0 → Below n.next b.0 → Says n (said (a ∷ b ∷ []) n) (λ s. truth_of s a || truth_of s b)
-  says_either {a} {b} ba bb = says_as (λ s h. ap (λ t. truth_of s a || t) (or_false (truth_of s b))) (says_one (a ∷ b ∷ []) w (ba, (bb, tt)))
+  says_either {a} {b} ba bb = says_as (λ s h. ap (λ t. truth_of s a || t) (or-false (truth_of s b))) (says_one (a ∷ b ∷ []) w (ba, (bb, tt)))
 
 pub denied_says : (ls : List Literal) {n : Net} → Whole n → WordBelow n.next ls → Says n (denied_n ls n) (λ s. all_b (not_b (map (truth_of s) ls)))
 denied_says [] w b = says_none w
@@ -114,7 +114,7 @@ equated_says (x ∷ xs) (y ∷ ys) w bx by =
     same false b = refl
 
 pub unless_says : (ls : List Literal) {n : Net} {a : Literal} → Whole n → Below n.next a.0 → WordBelow n.next ls → Says n (unless_n a ls n) (λ s. truth_of s a || all_b (map (truth_of s) ls))
-unless_says [] {a = a} w b bl = says_as (λ s h. sym (or_true (truth_of s a))) (says_none w)
+unless_says [] {a = a} w b bl = says_as (λ s h. sym (or-true (truth_of s a))) (says_none w)
 unless_says (l ∷ ls) {a = a} w b bl =
     let c = says_either w b bl.0 in
     says_as (λ s h. sym (or-and_distrib_left (truth_of s a) (truth_of s l) (all_b (map (truth_of s) ls))))

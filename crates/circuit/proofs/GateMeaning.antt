@@ -1,6 +1,6 @@
 -- Each gate makes a literal that carries its operation, whether that is a new variable or a literal in place of one.
 use Rattle.std.proofs.Common.{◌≡◌, ℕ, suc, Bool, true, false, cond, not, ◌&&◌, ◌||◌, List, sym, refl, ap, ◌∙◌, ap₂, arith}
-use mathlib.Core.Bool.{and_true, and_self, and-false, not-and_self}
+use mathlib.Core.Bool.{and-true, and_self, and-false, not-and_self}
 use Rattle.std.proofs.lemmas.Bool.{eqb-true, and_parts}
 use Rattle.words.specs.Words.{xor}
 use Rattle.clauses.specs.declared.literal.Literal.{Literal}
@@ -111,7 +111,7 @@ module _ {n : Net} (w : Whole n) where
         by_test P (same a low) (λ e. wire (carries_low w) (λ s k. rw (same_carries ca (carries_low w) e s k)))
         (by_test P (same b low) (λ e. wire (carries_low w) (λ s k. rw (same_carries cb (carries_low w) e s k) (sym (and-false (f s)))))
         (by_test P (same a high) (λ e. wire cb (λ s k. rw (same_carries ca (carries_high w) e s k)))
-        (by_test P (same b high) (λ e. wire ca (λ s k. rw (same_carries cb (carries_high w) e s k) (sym (and_true (f s)))))
+        (by_test P (same b high) (λ e. wire ca (λ s k. rw (same_carries cb (carries_high w) e s k) (sym (and-true (f s)))))
         (by_test P (same a b) (λ e. wire ca (λ s k. rw (same_carries ca cb e s k) (sym (and_self (g s)))))
         (by_test P (same a (negated b)) (λ e. wire (carries_low w) (λ s k. rw (same_carries ca (carries_negated cb) e s k) (sym (not-and_self (g s)))))
         and_gate)))))

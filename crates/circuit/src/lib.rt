@@ -2,6 +2,8 @@
 //
 // A builder writes clauses into lent memory. A gate is a new variable with the clauses that make it the
 // gate's output; a circuit on words is gates in a fixed order.
+#![tactic(auto)]
+
 mod adding;
 mod builder;
 mod choosing;

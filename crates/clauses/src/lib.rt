@@ -1,4 +1,6 @@
 // Clauses as lists of numbers: literals and variables, reading the lists, and writing a model.
+#![tactic(auto)]
+
 mod literal;
 mod model;
 mod numbering;

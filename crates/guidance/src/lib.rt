@@ -3,6 +3,8 @@
 //
 // Whoever uses an answer from here tests it first. So these functions promise nothing but to return:
 // a wrong answer can cost time, and no more.
+#![tactic(auto)]
+
 mod memory;
 mod occurrences;
 mod order;

@@ -1,8 +1,10 @@
 // Reads the book that its argument names, and prints a line for each rule: its weight, and whether
 // it may be used to rewrite a listing. A text that is no book is refused with the place of its first
 // fault.
+#![tactic(auto)]
+
 ghost use Rattle.std.specs.Prelude.{Ok};
-ghost use Rattle.book.specs.Reading.{BookRead};
+ghost use Rattle.book.specs.Reading.{IsBookRead};
 
 use anyhow::anyhow;
 use book::{locate, read_book, read_rule};
@@ -33,7 +35,7 @@ fn read_all(file: &mut File, buffer: &mut [u8]) -> anyhow::Result<usize> {
 
 // Prints what is known of each rule of a book.
 fn report(rt: &HostRuntime, text: &[u8], rules: usize) -> anyhow::Result<()>
-    requires { BookRead text.now (Ok rules) }
+    requires { IsBookRead text.now (Ok rules) }
 {
     let mut at = 0;
     for i in 0..rules {

@@ -5,7 +5,7 @@ use Rattle.std.proofs.lemmas.Bool.{ltb-true, true≢false}
 use Rattle.words.specs.Words.{pick}
 use Rattle.terms.specs.declared.rule.RuleNodes.{RuleNodes}
 use Rattle.terms.specs.Terms.{Rule, Fails}
-use Rattle.book.specs.Reading.{RuleRead}
+use Rattle.book.specs.Reading.{IsRuleRead}
 use Rattle.book.specs.Text.{Book}
 use Rattle.book.proofs.RuleReads.{no_rules_yet, one_rule_more, next_rule}
 use Rattle.judging.specs.Progress.{Judges, NoneFails, SomeFails, Failing, SoFar}
@@ -75,7 +75,7 @@ failing_first false rs vs x h = first_of_none rs vs _ _ h
 pub none_judged : (s v x : List ℕ) → SoFar s 0 0 v v x x false
 none_judged s v x = record { read = no_rules_yet s; size = refl; others = refl; long = refl; rest = refl; counted = λ rs b. omega arith; verdicts = λ rs b. tt; failing = λ rs b. tt }
 
-module _ (s v v' x x' : List ℕ) (p q n : ℕ) (failed : Bool) (so : SoFar s p n v v' x x' failed) (y : RuleNodes) (lt : n < 256) (room : 256 ≤ length v) (r : RuleRead s p y q) (verdict : ℕ) where
+module _ (s v v' x x' : List ℕ) (p q n : ℕ) (failed : Bool) (so : SoFar s p n v v' x x' failed) (y : RuleNodes) (lt : n < 256) (room : 256 ≤ length v) (r : IsRuleRead s p y q) (verdict : ℕ) where
   written : take (n + 1) (set v' n verdict) ≡ take n v' ++ (verdict ∷ [])
   written = take_more_set v' n verdict (omega (arith, so.size))
 

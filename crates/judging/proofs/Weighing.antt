@@ -5,7 +5,7 @@ use Rattle.std.proofs.lemmas.Bool.{le-ltb}
 use Rattle.words.specs.Words.{pick}
 use Rattle.terms.specs.declared.rule.RuleNodes.{RuleNodes}
 use Rattle.terms.specs.Terms.{Rule, weight, limit}
-use Rattle.book.specs.Reading.{RuleRead}
+use Rattle.book.specs.Reading.{IsRuleRead}
 use Rattle.book.specs.Text.{Book}
 use Rattle.book.proofs.RuleReads.{no_rules_yet, one_rule_more, next_rule}
 use Rattle.judging.specs.Progress.{Weighed}
@@ -18,7 +18,7 @@ heaviest_more (q ∷ rs) r = omega (arith, heaviest_more rs r)
 pub weighed_none : (s : List ℕ) → Weighed s 0 0 0
 weighed_none s = record { read = no_rules_yet s; heavy_is = λ rs b. refl; few = omega arith }
 
-pub weighed_more : (s : List ℕ) (p q n heavy more next : ℕ) (x : RuleNodes) → Weighed s p n heavy → n < 256 → (r : RuleRead s p x q) → more ≡ pick (ltb limit (weight r.rule)) 0 (weight r.rule) → more ≤ 200000 → next ≡ max heavy more → Weighed s q (n + 1) next
+pub weighed_more : (s : List ℕ) (p q n heavy more next : ℕ) (x : RuleNodes) → Weighed s p n heavy → n < 256 → (r : IsRuleRead s p x q) → more ≡ pick (ltb limit (weight r.rule)) 0 (weight r.rule) → more ≤ 200000 → next ≡ max heavy more → Weighed s q (n + 1) next
 weighed_more s p q n heavy more next x so lt r m few is = record {
   read = one_rule_more s p q n x so.read lt r;
   heavy_is = λ rs b. ap heaviest (next_rule s p q n x so.read r rs b) ∙ (heaviest_more (take n rs) r.rule ∙ omega (arith, so.heavy_is rs b, m, is));

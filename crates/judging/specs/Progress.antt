@@ -5,7 +5,7 @@ use Rattle.circuit.specs.Meaning.{truth_of}
 use Rattle.circuit.specs.Nets.{wires}
 use Rattle.terms.specs.Terms.{Rule, Holds, Fails, weight, limit}
 use Rattle.book.specs.Text.{Book}
-use Rattle.book.specs.Reading.{RulesRead}
+use Rattle.book.specs.Reading.{IsRulesRead}
 use Rattle.judging.specs.Says.{value, Verdicts, heaviest}
 
 -- the verdict v of a rule, which fails at the first 32 of the values x if it does
@@ -29,7 +29,7 @@ Failing false rs vs x = NoneFails vs
 
 -- of the text s the first n rules are judged, up to place p; the verdicts v became v' and the values x became x'
 pub record SoFar (s : List ℕ) (p n : ℕ) (v v' x x' : List ℕ) (failed : Bool) : Type 0 where
-  pub read : RulesRead s p n
+  pub read : IsRulesRead s p n
   pub size : length v' ≡ length v
   pub others : drop n v' ≡ drop n v
   pub long : length x' ≡ length x
@@ -40,7 +40,7 @@ pub record SoFar (s : List ℕ) (p n : ℕ) (v v' x x' : List ℕ) (failed : Boo
 
 -- of the text s the heaviest of the first n rules, up to place p, is so heavy
 pub record Weighed (s : List ℕ) (p n heavy : ℕ) : Type 0 where
-  pub read : RulesRead s p n
+  pub read : IsRulesRead s p n
   pub heavy_is : (rs : List Rule) → Book s rs → heaviest (take n rs) ≡ heavy
   pub few : heavy ≤ 200000
 

@@ -4,7 +4,7 @@ ghost use Rattle.words.specs.Words.{pick};
 ghost use Rattle.terms.specs.Limits.{ok_rule};
 ghost use Rattle.terms.specs.Represents.{Represents};
 ghost use Rattle.terms.specs.Terms.{Rule, weight, limit};
-ghost use Rattle.book.specs.Reading.{BookRead};
+ghost use Rattle.book.specs.Reading.{IsBookRead};
 ghost use Rattle.book.specs.Text.{Book};
 ghost use Rattle.judging.specs.Progress.{SoFar};
 ghost use Rattle.judging.specs.Says.{floor, heaviest, JudgedPost};
@@ -28,7 +28,7 @@ fn counted_weight(rule: &RuleNodes) -> usize
 
 // The weight of the heaviest rule of a book that isn't too heavy.
 fn heaviest_rule(book: &[u8], rules: usize) -> usize
-    requires { BookRead book.now (Ok rules) }
+    requires { IsBookRead book.now (Ok rules) }
     ensures heaviest { (rs : List Rule) → Book book.now rs → result ≡ heaviest rs }
     ensures few { result ≤ 200000 }
 {
@@ -70,7 +70,7 @@ fn show_values(found: &[u64; 32], values: &mut [u64])
 
 // Writes the verdicts of a book's rules, and the values of the first rule that fails.
 fn judge_rules(book: &[u8], rules: usize, verdicts: &mut [u8], values: &mut [u64], work: &mut [u32])
-    requires book { BookRead book.now (Ok rules) }
+    requires book { IsBookRead book.now (Ok rules) }
     requires verdicts { 256 ≤ length verdicts.old }
     requires values { 32 ≤ length values.old }
     requires work { (rs : List Rule) → Book book.now rs → floor (heaviest rs) ≤ length work.old }

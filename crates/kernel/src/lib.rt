@@ -1,5 +1,7 @@
 // The proved kernel of the solver: the few steps on which every answer rests. A solver that uses
 // them may be guided by anything, since each step checks or requires what it needs.
+#![tactic(auto)]
+
 mod arena;
 mod hints;
 mod plain;

@@ -1,5 +1,7 @@
 // Propagation and learning: what the literals on the trail force, and the clauses that are learned
 // where they force a conflict.
+#![tactic(auto)]
+
 mod analyze;
 mod guide;
 mod lesson;

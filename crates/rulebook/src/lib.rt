@@ -1,4 +1,6 @@
 // The calls of the rule book, as C functions.
+#![tactic(auto)]
+
 ghost use Rattle.std.specs.Prelude.{length, ◌≡◌};
 ghost use Rattle.rulebook.specs.Codes.{Answered, code};
 

@@ -1,7 +1,9 @@
 // Decides each rule of the books that its arguments name by trying all values of its names, and
 // prints for each book how many of its rules hold and how many fail.
+#![tactic(auto)]
+
 ghost use Rattle.std.specs.Prelude.{◌≤◌, length, IfOk, Ok};
-ghost use Rattle.book.specs.Reading.{BookRead};
+ghost use Rattle.book.specs.Reading.{IsBookRead};
 
 use anyhow::anyhow;
 use book::{read_book, read_rule};
@@ -42,7 +44,7 @@ fn read_all(file: &mut File, buffer: &mut [u8]) -> anyhow::Result<usize>
 
 // Writes the verdict on each rule of a book, by trying it.
 fn try_rules(text: &[u8], rules: usize, verdicts: &mut [u8; 256])
-    requires { BookRead text.now (Ok rules) }
+    requires { IsBookRead text.now (Ok rules) }
 {
     let mut at = 0;
     for i in 0..rules {

@@ -1,4 +1,6 @@
 // Terms over machine words and the rules between them, as nodes in arrays.
+#![tactic(auto)]
+
 mod evaluation;
 mod measure;
 mod node;

@@ -1,4 +1,6 @@
 // Machine words of 8, 16, 32 and 64 bits, held in a `u64`, and the operations on them.
+#![tactic(auto)]
+
 ghost use Rattle.std.specs.Prelude.{◌≡◌, ◌+◌, ◌%◌, ◌^◌, ◌<◌, MatchOption, ◌≢◌};
 ghost use Rattle.words.specs.Words.{bits};
 

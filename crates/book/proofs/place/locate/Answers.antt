@@ -2,7 +2,7 @@ use Rattle.std.proofs.Common.{◌≡◌, ℕ, ◌+◌, true, false, List, get_or
 use Rattle.std.proofs.lemmas.Bool.{eq-eqb, ne_eqb}
 use Rattle.book.specs.Place.{begins, line_at, word_at}
 use Rattle.book.proofs.place.locate.Goals as goal
-use Rattle.book.proofs.place.locate.Goals.{then-text-k-eq10, else-text-k-eq10+then-begins-word, else-text-k-eq10+else-begins-word}
+use Rattle.book.proofs.place.locate.Goals.{then-text-k-eq10, else-text-k-eq10+then-begins_word, else-text-k-eq10+else-begins_word}
 
 -- one character more: a line end, the first of a word, or another
 line_end : (s : List ℕ) (k : ℕ) → get_or s k 0 ≡ 10 → (line_at s (k + 1) ≡ line_at s k + 1) × (word_at s (k + 1) ≡ 1)
@@ -28,13 +28,13 @@ loop-k-preserved c =
           let a = m.0 in
           let b = m.1 in
           (omega (arith, w.line-is), omega (arith, w.word-is), omega (arith, w.line-is), omega (arith, w.word-is))
-      | else-text-k-eq10+then-begins-word w ↦
-          let m = word_begins s k w.if-text-k-eq10.false (sym w.begins-word.ensures ∙ w.if-begins-word.true) in
+      | else-text-k-eq10+then-begins_word w ↦
+          let m = word_begins s k w.if-text-k-eq10.false (sym w.begins_word.ensures ∙ w.if-begins_word.true) in
           let a = m.0 in
           let b = m.1 in
           (omega (arith, w.line-is), omega (arith, w.word-is), omega (arith, w.line-is), omega (arith, w.word-is))
-      | else-text-k-eq10+else-begins-word w ↦
-          let m = nothing_begins s k w.if-text-k-eq10.false (sym w.begins-word.ensures ∙ w.if-begins-word.false) in
+      | else-text-k-eq10+else-begins_word w ↦
+          let m = nothing_begins s k w.if-text-k-eq10.false (sym w.begins_word.ensures ∙ w.if-begins_word.false) in
           let a = m.0 in
           let b = m.1 in
           (omega (arith, w.line-is), omega (arith, w.word-is), omega (arith, w.line-is), omega (arith, w.word-is))

@@ -18,7 +18,7 @@ found s w p q token.Other is e lt le = record { word = w; is = is; before = e; l
 
 pub returns-then-start-text : goal.returns-then-start-text
 returns-then-start-text c =
-    (c.skip-blanks-start.ensures.from, c.skip-blanks-start.ensures.to, sym c.skip-blanks-start.ensures.words ∙ words_end c.args.text.now c.skip-blanks-start.result (omega arith))
+    (c.skip_blanks-start.ensures.from, c.skip_blanks-start.ensures.to, sym c.skip_blanks-start.ensures.words ∙ words_end c.args.text.now c.skip_blanks-start.result (omega arith))
 
 -- a word is not empty: where it begins there is no blank, and where it ends there is one
 grows : (s : List ℕ) (p q : ℕ) → p ≤ q → p < length s → (p < length s → blank (get_or s p 0) ≡ false) → (q < length s → blank (get_or s q 0) ≡ true) → p < q
@@ -34,10 +34,10 @@ stops s q le h = elim (cases_eq q (length s)) [ inl e ↦ inl e | inr ne ↦ inr
 pub returns : goal.returns
 returns c =
     let s = c.args.text.now in
-    let p = c.skip-blanks-start.result in
-    let q = c.skip-word-end.result in
-    let before = c.skip-blanks-start.ensures in
-    let after = c.skip-word-end.ensures in
+    let p = c.skip_blanks-start.result in
+    let q = c.skip_word-end.result in
+    let before = c.skip_blanks-start.ensures in
+    let after = c.skip_word-end.ensures in
     let inside : p < length s = omega arith in
     let lt : p < q = grows s p q after.from inside before.stops after.stops in (
       before.from,

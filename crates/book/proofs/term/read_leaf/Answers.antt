@@ -7,36 +7,36 @@ use Rattle.std.proofs.lemmas.Bool.{lt-leb, le-leb}
 use Rattle.book.proofs.TermReads.{leaf_no_number, leaf_too_large, leaf_sound}
 use Rattle.book.proofs.term.read_leaf.Goals as goal
 
-pub returns-in-err-number : goal.returns-in-err-number
-returns-in-err-number c =
-    let p = err_from_is_err_and c.from-residual.result c.from-residual.ensures.1 in
-    rw p.1 (leaf_no_number c.args.text.now c.args.at c.args.leaf c.args.rule.now.width c.in-err-number.ensures)
+pub returns-in_err-number : goal.returns-in_err-number
+returns-in_err-number c =
+    let p = err_from_is_err_and c.from_residual.result c.from_residual.ensures.1 in
+    rw p.1 (leaf_no_number c.args.text.now c.args.at c.args.leaf c.args.rule.now.width c.in_err-number.ensures)
 
 pub returns-then-number-largest : goal.returns-then-number-largest
 returns-then-number-largest c =
-    let n = c.in-ok-number.number.value in
-    leaf_too_large c.args.text.now c.args.at c.in-ok-number.number.end n c.args.leaf c.args.rule.now.width c.in-ok-number.ensures
+    let n = c.in_ok-number.number.value in
+    leaf_too_large c.args.text.now c.args.at c.in_ok-number.number.end n c.args.leaf c.args.rule.now.width c.in_ok-number.ensures
     (c.largest.ensures n ∙ lt-leb n c.largest.result c.if-number-largest.true)
 
 pub push-root-requires : goal.push-root-requires
 push-root-requires c =
-    let n = c.in-ok-number.number.value in
+    let n = c.in_ok-number.number.value in
     let x = c.args.rule.now in
     record {
       room = c.requires.1;
-      sound = ap (sound (bits x.width) x.len) c.leaf-node.ensures ∙ leaf_sound (bits x.width) x.len n c.args.leaf ∙ c.largest.ensures n ∙ le-leb n c.largest.result c.if-number-largest.false;
+      sound = ap (sound (bits x.width) x.len) c.leaf_node.ensures ∙ leaf_sound (bits x.width) x.len n c.args.leaf ∙ c.largest.ensures n ∙ le-leb n c.largest.result c.if-number-largest.false;
     }
 
 pub returns : goal.returns
 returns c =
-    let n = c.in-ok-number.number.value in
+    let n = c.in_ok-number.number.value in
     let x = c.args.rule.now in
     let push = c.push-root.ensures in (
       record {
         number = n;
-        read = c.in-ok-number.ensures;
+        read = c.in_ok-number.ensures;
         ok = c.largest.ensures n ∙ le-leb n c.largest.result c.if-number-largest.false;
-        pushed = record { there = ap (λ i. get_or c.push-root.new.self.nodes i (Any 0)) (sym push.place) ∙ push.there ∙ c.leaf-node.ensures; len = push.len; nodes = push.nodes ∙ ap (set x.nodes x.len) c.leaf-node.ensures; width = push.width; needed = push.needed };
+        pushed = record { there = ap (λ i. get_or c.push-root.new.self.nodes i (Any 0)) (sym push.place) ∙ push.there ∙ c.leaf_node.ensures; len = push.len; nodes = push.nodes ∙ ap (set x.nodes x.len) c.leaf_node.ensures; width = push.width; needed = push.needed };
         last = push.place;
       },
       refl,

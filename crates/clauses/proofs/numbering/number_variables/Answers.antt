@@ -7,13 +7,13 @@ use Rattle.clauses.proofs.numbering.number_variables.Goals as goal
 pub loop-k-init : goal.loop-k-init
 loop-k-init c = (inverse_none c.fill.new.self c.args.names.now (λ k l. search rules), renames_none _ _ _, omega arith)
 
-pub overflow-sub-v : goal.overflow-sub-v
-overflow-sub-v c = (well_variable _ _ c.requires.well c.requires.within _ c.loop-k-test.true c.if-x-eq0.false).0
+pub overflow_sub-v : goal.overflow_sub-v
+overflow_sub-v c = (well_variable _ _ c.requires.well c.requires.within _ c.loop-k-test.true c.if-x-eq0.false).0
 
-pub number-variable-count-requires : goal.number-variable-count-requires
-number-variable-count-requires c =
+pub number_variable-count-requires : goal.number_variable-count-requires
+number_variable-count-requires c =
     let variable = well_variable _ _ c.requires.well c.requires.within _ c.loop-k-test.true c.if-x-eq0.false in
-    record { inverse = c.loop-k.invariant.0; known = omega arith; narrow = omega (arith, c.type-inv.clauses c.loop-k.k); room = omega arith; few = omega arith }
+    record { inverse = c.loop-k.invariant.0; known = omega arith; narrow = omega (arith, c.type_inv.clauses c.loop-k.k); room = omega arith; few = omega arith }
 
 pub bounds-map-v : goal.bounds-map-v
 bounds-map-v c =

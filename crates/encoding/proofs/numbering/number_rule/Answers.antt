@@ -6,8 +6,8 @@ use Rattle.encoding.proofs.numbering.number_rule.Goals as goal
 pub loop-k-init : goal.loop-k-init
 loop-k-init c = subst (λ n. NumberedSoFar c.args.rule.now 0 c.new-table.result.entries n (0 ∷ 0 ∷ 0 ∷ 0 ∷ 0 ∷ 0 ∷ [])) (sym c.new-table.ensures) (numbered_none c.args.rule.now c.new-table.result.entries (0 ∷ 0 ∷ 0 ∷ 0 ∷ 0 ∷ 0 ∷ []) refl)
 
-pub number-term-requires : goal.number-term-requires
-number-term-requires c =
+pub number_term-requires : goal.number_term-requires
+number_term-requires c =
     let x = c.args.rule.now in
     let k = c.loop-k.k in
     let r = c.requires in
@@ -15,7 +15,7 @@ number-term-requires c =
     record { there = at.0; room = (get_or (terms r.0) k (any 0), at.1, root_room x k (omega arith) c.loop-k.table.entries c.loop-k.table.len c.loop-k.places r.0 r.1 r.2 c.loop-k.invariant) }
 
 pub loop-k-preserved : goal.loop-k-preserved
-loop-k-preserved c = numbered_more c.args.rule.now c.loop-k.k (omega arith) _ _ _ _ _ c.loop-k.places (omega arith) c.loop-k.invariant c.number-term.ensures
+loop-k-preserved c = numbered_more c.args.rule.now c.loop-k.k (omega arith) _ _ _ _ _ c.loop-k.places (omega arith) c.loop-k.invariant c.number_term.ensures
 
 pub returns : goal.returns
 returns c =

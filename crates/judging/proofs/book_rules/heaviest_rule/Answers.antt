@@ -16,9 +16,9 @@ loop-i-preserved c =
     let n = book.2 in
     let few = book_few c.args.book.now book.0 book.1 in
     let r = c.in-Ok.ensures in
-    let more = c.counted-weight-heavy.result in
+    let more = c.counted_weight-heavy.result in
     let next : c.if-heavy-heaviest.heaviest ≡ max c.loop-i.heaviest more = elim c.if-heavy-heaviest.branch [ then-heavy-heaviest w ↦ omega (arith, w.heaviest-is, w.if-heavy-heaviest.true) | else-heavy-heaviest w ↦ omega (arith, w.heaviest-is, w.if-heavy-heaviest.false) ] in
-    weighed_more c.args.book.now c.loop-i.at c.in-Ok.read.end c.loop-i.i c.loop-i.heaviest more c.if-heavy-heaviest.heaviest c.in-Ok.read.rule c.loop-i.invariant (omega arith) r (c.counted-weight-heavy.ensures.count r.rule r.represents r.ok) c.counted-weight-heavy.ensures.few next
+    weighed_more c.args.book.now c.loop-i.at c.in-Ok.read.end c.loop-i.i c.loop-i.heaviest more c.if-heavy-heaviest.heaviest c.in-Ok.read.rule c.loop-i.invariant (omega arith) r (c.counted_weight-heavy.ensures.count r.rule r.represents r.ok) c.counted_weight-heavy.ensures.few next
 
 pub returns : goal.returns
 returns c =

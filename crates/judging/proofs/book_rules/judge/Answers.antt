@@ -14,6 +14,6 @@ returns-then-verdicts-lt256 c = judged_few c.args.book.now c.args.verdicts.now c
 pub returns : goal.returns
 returns c =
     let book = c.in-Ok.ensures.says in
-    let so = c.judge-rules.ensures in
-    let heavy = c.heaviest-rule-heaviest.ensures.heaviest book.0 book.1 in
-    judged_rules c.args.book.now c.args.verdicts.now c.judge-rules.new.verdicts c.args.values.now c.judge-rules.new.values (length c.args.work.now) c.in-Ok.rules so.0 so.1 (omega (arith, c.if-verdicts-lt256.false)) (omega (arith, c.if-values-lt32.false)) (omega (arith, c.if-work-lt65536.false)) book.0 book.1 book.2 (subst (λ n. floor n ≤ length c.args.work.now) heavy (omega (arith, c.if-work-heaviest.false))) so.2
+    let so = c.judge_rules.ensures in
+    let heavy = c.heaviest_rule-heaviest.ensures.heaviest book.0 book.1 in
+    judged_rules c.args.book.now c.args.verdicts.now c.judge_rules.new.verdicts c.args.values.now c.judge_rules.new.values (length c.args.work.now) c.in-Ok.rules so.0 so.1 (omega (arith, c.if-verdicts-lt256.false)) (omega (arith, c.if-values-lt32.false)) (omega (arith, c.if-work-lt65536.false)) book.0 book.1 book.2 (subst (λ n. floor n ≤ length c.args.work.now) heavy (omega (arith, c.if-work-heaviest.false))) so.2

@@ -14,8 +14,8 @@ unreachable-requires c =
     let n = book.2 in
     rule_there c.args.book.now c.loop-i.at c.loop-i.i c.loop-i.invariant.read book.0 book.1 (omega arith) c.in-Err.ensures
 
-pub judge-rule-verdict-requires : goal.judge-rule-verdict-requires
-judge-rule-verdict-requires c =
+pub judge_rule-verdict-requires : goal.judge_rule-verdict-requires
+judge_rule-verdict-requires c =
     let book = c.requires.book.says in
     let r = c.in-Ok.ensures in
     let next = next_rule c.args.book.now c.loop-i.at c.in-Ok.read.end c.loop-i.i c.in-Ok.read.rule c.loop-i.invariant.read r book.0 book.1 in
@@ -40,17 +40,17 @@ loop-i-preserved c =
     let i = c.loop-i.i in
     let vs = c.loop-i.verdicts in
     let so = c.loop-i.invariant in
-    let verdict = c.judge-rule-verdict.result in
-    let found = c.judge-rule-verdict.new.values in
-    let judged = c.judge-rule-verdict.ensures r.rule r.represents r.ok in
-    let wrote = verdict_set vs c.write-verdict.new.rest i verdict (omega arith) c.write-verdict.ensures in
+    let verdict = c.judge_rule-verdict.result in
+    let found = c.judge_rule-verdict.new.values in
+    let judged = c.judge_rule-verdict.ensures r.rule r.represents r.ok in
+    let wrote = verdict_set vs c.write_verdict.new.rest i verdict (omega arith) c.write_verdict.ensures in
     let one = one_judged s c.args.verdicts.now vs c.args.values.now c.loop-i.values c.loop-i.at c.in-Ok.read.end i c.loop-i.failed so c.in-Ok.read.rule (omega arith) c.requires.verdicts r verdict found in
     let kept = failing_kept s c.args.verdicts.now vs c.args.values.now c.loop-i.values c.loop-i.at c.in-Ok.read.end i c.loop-i.failed so c.in-Ok.read.rule (omega arith) c.requires.verdicts r verdict in
     elim c.if-verdict-eq-FAILS.branch [
       | then-verdict-eq-FAILS+then-not-failed w ↦
           so_far_as _ _ _ _ _ _ _ _ _ _ _ wrote w.values-is w.failed-is
-          (one w.show-values.new.values true judged (w.show-values.ensures.size ∙ so.long) (w.show-values.ensures.others ∙ so.rest)
-          (failing_first_now s c.args.verdicts.now vs c.args.values.now c.loop-i.values c.loop-i.at c.in-Ok.read.end i c.loop-i.failed so c.in-Ok.read.rule (omega arith) c.requires.verdicts r verdict found w.show-values.new.values w.if-not-failed.true w.if-verdict-eq-FAILS.true judged w.show-values.ensures.same))
+          (one w.show_values.new.values true judged (w.show_values.ensures.size ∙ so.long) (w.show_values.ensures.others ∙ so.rest)
+          (failing_first_now s c.args.verdicts.now vs c.args.values.now c.loop-i.values c.loop-i.at c.in-Ok.read.end i c.loop-i.failed so c.in-Ok.read.rule (omega arith) c.requires.verdicts r verdict found w.show_values.new.values w.if-not-failed.true w.if-verdict-eq-FAILS.true judged w.show_values.ensures.same))
       | else-verdict-eq-FAILS w ↦
           so_far_as _ _ _ _ _ _ _ _ _ _ _ wrote w.values-is w.failed-is
           (one c.loop-i.values c.loop-i.failed judged so.long so.rest

@@ -6,8 +6,8 @@ use Rattle.circuit.specs.Bits.{val}
 use Rattle.encoding.specs.Encode.{name_bits}
 use Rattle.judging.proofs.one_rule.read_names.Goals as goal
 
-pub read-word-requires : goal.read-word-requires
-read-word-requires c =
+pub read_word-requires : goal.read_word-requires
+read_word-requires c =
     let k = c.loop-k.k in
     let w = c.args.width in
     let most : (k + 1) * w ≤ 32 * w = mul-le-mul_right w (omega arith) in
@@ -17,8 +17,8 @@ pub loop-k-preserved : goal.loop-k-preserved
 loop-k-preserved c j h =
     let k = c.loop-k.k in
     let xs = c.loop-k.values in
-    let x = c.read-word.result in
+    let x = c.read_word.result in
     elim (cases_eq j k) [
-      | inl e ↦ ap (λ i. get_or (set xs k x) i 0) e ∙ (get_or-set_same xs k x 0 (omega arith) ∙ (c.read-word.ensures ∙ ap (λ i. val (name_bits c.args.width (byte_sign c.args.model.now) i)) (sym e)))
+      | inl e ↦ ap (λ i. get_or (set xs k x) i 0) e ∙ (get_or-set_same xs k x 0 (omega arith) ∙ (c.read_word.ensures ∙ ap (λ i. val (name_bits c.args.width (byte_sign c.args.model.now) i)) (sym e)))
       | inr f ↦ get_or-set_other xs k j x 0 f ∙ c.loop-k.invariant j (omega arith)
     ]

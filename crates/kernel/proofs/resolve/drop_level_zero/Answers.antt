@@ -4,8 +4,8 @@ use Rattle.kernel.specs.Trail.{Stands}
 use Rattle.kernel.proofs.Blaming.{level_zero, unmarked, unmarked_left}
 use Rattle.kernel.proofs.resolve.drop_level_zero.Goals as goal
 
-pub overflow-sub-result : goal.overflow-sub-result
-overflow-sub-result c =
+pub overflow_sub-result : goal.overflow_sub-result
+overflow_sub-result c =
     let within = c.requires.first.within in
     let on : Stands c.args.values.now c.args.trail.now c.args.p = c.requires.state.trail.on c.args.p (omega arith) in
     unmarked_left c.args.clauses.now _ _ _ _ c.requires.blamed on.fits c.requires.marked

@@ -7,10 +7,10 @@ pub loop-v-preserved : goal.loop-v-preserved
 loop-v-preserved c =
     let map = c.loop-v.map in
     let v = c.loop-v.v in
-    let x = c.plain-number.result in
+    let x = c.plain_number.result in
     let at-v = get_or-set_same map v x 0 (omega arith) in
-    let is = c.plain-number.ensures.same in
-    let below = c.plain-number.ensures.below in (
+    let is = c.plain_number.ensures.same in
+    let below = c.plain_number.ensures.below in (
       λ k h small. elim (cases_eq k v) [
         | inl e ↦ let here = ap (λ i. get_or (set map v x) i 0) e in let is' = is (omega arith) in omega arith
         | inr ne ↦ get_or-set_other map v k x 0 ne ∙ c.loop-v.invariant.0 k (omega arith) small

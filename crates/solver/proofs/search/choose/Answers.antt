@@ -4,13 +4,13 @@ use Rattle.kernel.proofs.Budgets.{left_over, left_on}
 use Rattle.solver.proofs.Turning.{whole_on}
 use Rattle.solver.proofs.search.choose.Goals as goal
 
-pub returns-then-restart-due : goal.returns-then-restart-due
-returns-then-restart-due c =
-    let next = c.start-over-next.result in
+pub returns-then-restart_due : goal.returns-then-restart_due
+returns-then-restart_due c =
+    let next = c.start_over-next.result in
     record {
-      whole = c.start-over-next.ensures.whole;
-      less = subst (λ b. left (length c.start-over-next.new.values) c.args.kinds.now next.n b < left (length c.start-over-next.new.values) c.args.kinds.now c.args.at.n c.args.at.budget) (sym c.start-over-next.ensures.budget)
-          (left_over (length c.start-over-next.new.values) c.args.kinds.now c.args.kinds.now c.args.at.n next.n c.args.at.budget c.if-at-gt0.true);
+      whole = c.start_over-next.ensures.whole;
+      less = subst (λ b. left (length c.start_over-next.new.values) c.args.kinds.now next.n b < left (length c.start_over-next.new.values) c.args.kinds.now c.args.at.n c.args.at.budget) (sym c.start_over-next.ensures.budget)
+          (left_over (length c.start_over-next.new.values) c.args.kinds.now c.args.kinds.now c.args.at.n next.n c.args.at.budget c.if-at-gt0.true);
     }
 
 pub returns : goal.returns

@@ -4,7 +4,7 @@ use Rattle.learning.specs.Steps.{Whole}
 use Rattle.kernel.proofs.Budgets.{left_over, left_on}
 use Rattle.solver.proofs.Turning.{whole_as, whole_on}
 use Rattle.solver.proofs.search.respond.Goals as goal
-use Rattle.solver.proofs.search.respond.Goals.{then-at-gt0+then-is-header+in-default+else-forgetting-pays, else-at-gt0}
+use Rattle.solver.proofs.search.respond.Goals.{then-at-gt0+then-is_header+in_default+else-forgetting_pays, else-at-gt0}
 
 pub returns-in-Some : goal.returns-in-Some
 returns-in-Some c =
@@ -13,13 +13,13 @@ returns-in-Some c =
       less = left_over (length c.jump-n.new.values) c.args.kinds.now c.jump-n.new.kinds c.args.at.n c.jump-n.result c.args.at.budget c.if-at-gt0.true;
     }
 
-pub returns-then-forgetting-pays : goal.returns-then-forgetting-pays
-returns-then-forgetting-pays c =
-    let next = c.start-over-next.result in
-    let m = length c.start-over-next.new.values in
+pub returns-then-forgetting_pays : goal.returns-then-forgetting_pays
+returns-then-forgetting_pays c =
+    let next = c.start_over-next.result in
+    let m = length c.start_over-next.new.values in
     record {
-      whole = c.start-over-next.ensures.whole;
-      less = subst (λ b. left m c.args.kinds.now next.n b < left m c.args.kinds.now c.args.at.n c.args.at.budget) (sym c.start-over-next.ensures.budget)
+      whole = c.start_over-next.ensures.whole;
+      less = subst (λ b. left m c.args.kinds.now next.n b < left m c.args.kinds.now c.args.at.n c.args.at.budget) (sym c.start_over-next.ensures.budget)
           (left_over m c.args.kinds.now c.args.kinds.now c.args.at.n next.n c.args.at.budget c.if-at-gt0.true);
     }
 
@@ -27,7 +27,7 @@ returns-then-forgetting-pays c =
 kept : (c : goal.Else-n-eq0) → Whole c.args.clauses.now c.args.values.now c.args.trail.now c.args.kinds.now c.if-at-gt0.seen c.if-at-gt0.arena c.args.at.n c.args.at.low
 kept c =
     elim c.if-at-gt0.branch [
-      | then-at-gt0+then-is-header+in-default+else-forgetting-pays w ↦ whole_as _ _ _ _ _ _ _ _ _ _ w.seen-is w.arena-is w.in-default.ensures
+      | then-at-gt0+then-is_header+in_default+else-forgetting_pays w ↦ whole_as _ _ _ _ _ _ _ _ _ _ w.seen-is w.arena-is w.in_default.ensures
       | else-at-gt0 w ↦ whole_as _ _ _ _ _ _ _ _ _ _ w.seen-is w.arena-is c.requires.whole
     ]
 

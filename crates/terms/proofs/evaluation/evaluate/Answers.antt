@@ -8,13 +8,13 @@ use Rattle.terms.proofs.evaluation.evaluate.Goals as goal
 
 pub loop-i-preserved : goal.loop-i-preserved
 loop-i-preserved c = (
-  words_more (bits c.args.rule.now.width) c.loop-i.values c.loop-i.i c.node-value.result (omega arith) c.loop-i.invariant.0 c.node-value.ensures.word,
+  words_more (bits c.args.rule.now.width) c.loop-i.values c.loop-i.i c.node_value.result (omega arith) c.loop-i.invariant.0 c.node_value.ensures.word,
   λ j e h s.
       elim (cases_eq j c.loop-i.i) [
         | inl same ↦
             let there = subst (λ k. Stands c.args.rule.now.nodes k e) same s in
-            rw same (get_or-set_same c.loop-i.values c.loop-i.i c.node-value.result 0 (omega arith)
-            ∙ c.node-value.ensures.value ∙ node_eval (bits c.args.rule.now.width) c.args.any.now c.args.con.now c.loop-i.values c.args.rule.now.nodes c.loop-i.i e c.loop-i.invariant.1 there)
-        | inr ne ↦ get_or-set_other c.loop-i.values c.loop-i.i j c.node-value.result 0 ne ∙ c.loop-i.invariant.1 j e (omega arith) s
+            rw same (get_or-set_same c.loop-i.values c.loop-i.i c.node_value.result 0 (omega arith)
+            ∙ c.node_value.ensures.value ∙ node_eval (bits c.args.rule.now.width) c.args.any.now c.args.con.now c.loop-i.values c.args.rule.now.nodes c.loop-i.i e c.loop-i.invariant.1 there)
+        | inr ne ↦ get_or-set_other c.loop-i.values c.loop-i.i j c.node_value.result 0 ne ∙ c.loop-i.invariant.1 j e (omega arith) s
       ],
 )

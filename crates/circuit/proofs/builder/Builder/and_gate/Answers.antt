@@ -18,13 +18,13 @@ pub fresh-output-requires : goal.fresh-output-requires
 fresh-output-requires c = gate_fresh (λ o. and_rows o c.args.a c.args.b) c.requires
 
 pub clause2-requires : goal.clause2-requires
-clause2-requires c = row_fits (start c.requires c.fresh-output.ensures.wrote c.fresh-output.ensures.literal c.negated-off.ensures c.negated-not-a.ensures c.negated-not-b.ensures)
+clause2-requires c = row_fits (start c.requires c.fresh-output.ensures.wrote c.fresh-output.ensures.literal c.negated-off.ensures c.negated-not_a.ensures c.negated-not_b.ensures)
 
 pub clause2-requires-2 : goal.clause2-requires-2
-clause2-requires-2 c = row_fits (row_written (start c.requires c.fresh-output.ensures.wrote c.fresh-output.ensures.literal c.negated-off.ensures c.negated-not-a.ensures c.negated-not-b.ensures) c.clause2.ensures)
+clause2-requires-2 c = row_fits (row_written (start c.requires c.fresh-output.ensures.wrote c.fresh-output.ensures.literal c.negated-off.ensures c.negated-not_a.ensures c.negated-not_b.ensures) c.clause2.ensures)
 
 pub clause3-requires : goal.clause3-requires
-clause3-requires c = row_fits (row_written (row_written (start c.requires c.fresh-output.ensures.wrote c.fresh-output.ensures.literal c.negated-off.ensures c.negated-not-a.ensures c.negated-not-b.ensures) c.clause2.ensures) c.clause2-2.ensures)
+clause3-requires c = row_fits (row_written (row_written (start c.requires c.fresh-output.ensures.wrote c.fresh-output.ensures.literal c.negated-off.ensures c.negated-not_a.ensures c.negated-not_b.ensures) c.clause2.ensures) c.clause2-2.ensures)
 
 pub returns : goal.returns
-returns c = record { wrote = rows_written (row_written (row_written (row_written (start c.requires c.fresh-output.ensures.wrote c.fresh-output.ensures.literal c.negated-off.ensures c.negated-not-a.ensures c.negated-not-b.ensures) c.clause2.ensures) c.clause2-2.ensures) c.clause3.ensures); output = c.fresh-output.ensures.literal }
+returns c = record { wrote = rows_written (row_written (row_written (row_written (start c.requires c.fresh-output.ensures.wrote c.fresh-output.ensures.literal c.negated-off.ensures c.negated-not_a.ensures c.negated-not_b.ensures) c.clause2.ensures) c.clause2-2.ensures) c.clause3.ensures); output = c.fresh-output.ensures.literal }

@@ -11,8 +11,8 @@ use Rattle.circuit.proofs.builder.Builder.any.Goals as goal
 pub loop-i-init : goal.loop-i-init
 loop-i-init c = (wrote_none _ c.requires.inside, refl)
 
-pub or-so-far-requires : goal.or-so-far-requires
-or-so-far-requires c =
+pub or-so_far-requires : goal.or-so_far-requires
+or-so_far-requires c =
     let t = or_n c.loop-i.so_far (get_or c.args.x.now c.loop-i.i blank) (built c.loop-i.self) in
     let more = any_more c.args.x.now c.loop-i.i c.loop-i.so_far (built c.loop-i.self) c.loop-i-test.true in
     loop_fits c.loop-i.invariant.0 (ap (λ r. r.0) (c.loop-i.invariant.1 ∙ more)) (any_grows (drop (c.loop-i.i + 1) c.args.x.now) t.1 t.0) c.requires
@@ -21,7 +21,7 @@ pub loop-i-preserved : goal.loop-i-preserved
 loop-i-preserved c =
     let t = or_n c.loop-i.so_far (get_or c.args.x.now c.loop-i.i blank) (built c.loop-i.self) in
     let more = any_more c.args.x.now c.loop-i.i c.loop-i.so_far (built c.loop-i.self) c.loop-i-test.true in
-    (wrote_here c.loop-i.invariant.0 c.or-so-far.ensures.wrote, carried_more (any_n (drop (c.loop-i.i + 1) c.args.x.now)) t c.or-so-far.result (c.loop-i.invariant.1 ∙ more) c.or-so-far.ensures.wrote c.or-so-far.ensures.output)
+    (wrote_here c.loop-i.invariant.0 c.or-so_far.ensures.wrote, carried_more (any_n (drop (c.loop-i.i + 1) c.args.x.now)) t c.or-so_far.result (c.loop-i.invariant.1 ∙ more) c.or-so_far.ensures.wrote c.or-so_far.ensures.output)
 
 pub returns : goal.returns
 returns c =

@@ -4,4 +4,4 @@ use Rattle.circuit.specs.Built.{built, Wrote}
 use Rattle.circuit.proofs.builder.Builder.any.Given as goal
 
 abbrev pub invariant-loop-i : goal.invariant-loop-i
-invariant-loop-i l = Wrote l.initial.self l.self (built l.self) × (any_n l.x l.initial.so-far (built l.initial.self) ≡ any_n (drop l.i l.x) l.so-far (built l.self))
+invariant-loop-i l = Wrote l.initial.self l.self (built l.self) × (any_n l.x l.initial.so_far (built l.initial.self) ≡ any_n (drop l.i l.x) l.so_far (built l.self))

@@ -18,16 +18,16 @@ pub fresh-output-requires : goal.fresh-output-requires
 fresh-output-requires c = gate_fresh (λ o. choice_rows o c.args.s c.args.a c.args.b) c.requires
 
 pub clause3-requires : goal.clause3-requires
-clause3-requires c = row_fits (start c.requires c.fresh-output.ensures.wrote c.fresh-output.ensures.literal c.negated-off.ensures c.negated-not-s.ensures c.negated-not-a.ensures c.negated-not-b.ensures)
+clause3-requires c = row_fits (start c.requires c.fresh-output.ensures.wrote c.fresh-output.ensures.literal c.negated-off.ensures c.negated-not_s.ensures c.negated-not_a.ensures c.negated-not_b.ensures)
 
 pub clause3-requires-2 : goal.clause3-requires-2
-clause3-requires-2 c = row_fits (row_written (start c.requires c.fresh-output.ensures.wrote c.fresh-output.ensures.literal c.negated-off.ensures c.negated-not-s.ensures c.negated-not-a.ensures c.negated-not-b.ensures) c.clause3.ensures)
+clause3-requires-2 c = row_fits (row_written (start c.requires c.fresh-output.ensures.wrote c.fresh-output.ensures.literal c.negated-off.ensures c.negated-not_s.ensures c.negated-not_a.ensures c.negated-not_b.ensures) c.clause3.ensures)
 
 pub clause3-requires-3 : goal.clause3-requires-3
-clause3-requires-3 c = row_fits (row_written (row_written (start c.requires c.fresh-output.ensures.wrote c.fresh-output.ensures.literal c.negated-off.ensures c.negated-not-s.ensures c.negated-not-a.ensures c.negated-not-b.ensures) c.clause3.ensures) c.clause3-2.ensures)
+clause3-requires-3 c = row_fits (row_written (row_written (start c.requires c.fresh-output.ensures.wrote c.fresh-output.ensures.literal c.negated-off.ensures c.negated-not_s.ensures c.negated-not_a.ensures c.negated-not_b.ensures) c.clause3.ensures) c.clause3-2.ensures)
 
 pub clause3-requires-4 : goal.clause3-requires-4
-clause3-requires-4 c = row_fits (row_written (row_written (row_written (start c.requires c.fresh-output.ensures.wrote c.fresh-output.ensures.literal c.negated-off.ensures c.negated-not-s.ensures c.negated-not-a.ensures c.negated-not-b.ensures) c.clause3.ensures) c.clause3-2.ensures) c.clause3-3.ensures)
+clause3-requires-4 c = row_fits (row_written (row_written (row_written (start c.requires c.fresh-output.ensures.wrote c.fresh-output.ensures.literal c.negated-off.ensures c.negated-not_s.ensures c.negated-not_a.ensures c.negated-not_b.ensures) c.clause3.ensures) c.clause3-2.ensures) c.clause3-3.ensures)
 
 pub returns : goal.returns
-returns c = record { wrote = rows_written (row_written (row_written (row_written (row_written (start c.requires c.fresh-output.ensures.wrote c.fresh-output.ensures.literal c.negated-off.ensures c.negated-not-s.ensures c.negated-not-a.ensures c.negated-not-b.ensures) c.clause3.ensures) c.clause3-2.ensures) c.clause3-3.ensures) c.clause3-4.ensures); output = c.fresh-output.ensures.literal }
+returns c = record { wrote = rows_written (row_written (row_written (row_written (row_written (start c.requires c.fresh-output.ensures.wrote c.fresh-output.ensures.literal c.negated-off.ensures c.negated-not_s.ensures c.negated-not_a.ensures c.negated-not_b.ensures) c.clause3.ensures) c.clause3-2.ensures) c.clause3-3.ensures) c.clause3-4.ensures); output = c.fresh-output.ensures.literal }

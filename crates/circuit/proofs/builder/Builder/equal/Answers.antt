@@ -11,8 +11,8 @@ use Rattle.circuit.proofs.builder.Builder.equal.Goals as goal
 pub loop-i-init : goal.loop-i-init
 loop-i-init c = (wrote_none _ c.requires.room.inside, refl)
 
-pub equal-bit-so-far-requires : goal.equal-bit-so-far-requires
-equal-bit-so-far-requires c =
+pub equal_bit-so_far-requires : goal.equal_bit-so_far-requires
+equal_bit-so_far-requires c =
     let t = equal_bit_n (get_or c.args.x.now c.loop-i.i blank) (get_or c.args.y.now c.loop-i.i blank) c.loop-i.so_far (built c.loop-i.self) in
     let more = equal_more c.args.x.now c.args.y.now c.loop-i.i c.loop-i.so_far (built c.loop-i.self) c.loop-i-test.true (omega arith) in
     loop_fits c.loop-i.invariant.0 (ap (λ r. r.0) (c.loop-i.invariant.1 ∙ more)) (equal_grows (drop (c.loop-i.i + 1) c.args.x.now) (drop (c.loop-i.i + 1) c.args.y.now) t.1 t.0) c.requires.room
@@ -21,7 +21,7 @@ pub loop-i-preserved : goal.loop-i-preserved
 loop-i-preserved c =
     let t = equal_bit_n (get_or c.args.x.now c.loop-i.i blank) (get_or c.args.y.now c.loop-i.i blank) c.loop-i.so_far (built c.loop-i.self) in
     let more = equal_more c.args.x.now c.args.y.now c.loop-i.i c.loop-i.so_far (built c.loop-i.self) c.loop-i-test.true (omega arith) in
-    (wrote_here c.loop-i.invariant.0 c.equal-bit-so-far.ensures.wrote, carried_more (equal_n (drop (c.loop-i.i + 1) c.args.x.now) (drop (c.loop-i.i + 1) c.args.y.now)) t c.equal-bit-so-far.result (c.loop-i.invariant.1 ∙ more) c.equal-bit-so-far.ensures.wrote c.equal-bit-so-far.ensures.output)
+    (wrote_here c.loop-i.invariant.0 c.equal_bit-so_far.ensures.wrote, carried_more (equal_n (drop (c.loop-i.i + 1) c.args.x.now) (drop (c.loop-i.i + 1) c.args.y.now)) t c.equal_bit-so_far.result (c.loop-i.invariant.1 ∙ more) c.equal_bit-so_far.ensures.wrote c.equal_bit-so_far.ensures.output)
 
 pub returns : goal.returns
 returns c =

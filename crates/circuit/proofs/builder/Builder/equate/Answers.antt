@@ -15,24 +15,24 @@ loop-i-init c = (wrote_none _ c.requires.room.inside, refl)
 
 pub clause2-requires : goal.clause2-requires
 clause2-requires c =
-    let first = said (c.negated-not-x.result ∷ get_or c.args.y.now c.loop-i.i blank ∷ []) (built c.loop-i.self) in
-    let second = said (get_or c.args.x.now c.loop-i.i blank ∷ c.negated-not-y.result ∷ []) first in
-    let more = equated_more c.args.x.now c.args.y.now c.loop-i.i c.negated-not-x.result c.negated-not-y.result (built c.loop-i.self) c.loop-i-test.true (omega arith) c.negated-not-x.ensures c.negated-not-y.ensures in
-    loop_fits c.loop-i.invariant.0 (c.loop-i.invariant.1 ∙ more) (grows_then (said_grows (get_or c.args.x.now c.loop-i.i blank ∷ c.negated-not-y.result ∷ []) first) (equated_grows (drop (c.loop-i.i + 1) c.args.x.now) (drop (c.loop-i.i + 1) c.args.y.now) second)) c.requires.room
+    let first = said (c.negated-not_x.result ∷ get_or c.args.y.now c.loop-i.i blank ∷ []) (built c.loop-i.self) in
+    let second = said (get_or c.args.x.now c.loop-i.i blank ∷ c.negated-not_y.result ∷ []) first in
+    let more = equated_more c.args.x.now c.args.y.now c.loop-i.i c.negated-not_x.result c.negated-not_y.result (built c.loop-i.self) c.loop-i-test.true (omega arith) c.negated-not_x.ensures c.negated-not_y.ensures in
+    loop_fits c.loop-i.invariant.0 (c.loop-i.invariant.1 ∙ more) (grows_then (said_grows (get_or c.args.x.now c.loop-i.i blank ∷ c.negated-not_y.result ∷ []) first) (equated_grows (drop (c.loop-i.i + 1) c.args.x.now) (drop (c.loop-i.i + 1) c.args.y.now) second)) c.requires.room
 
 pub clause2-requires-in-loop-i : goal.clause2-requires-in-loop-i
 clause2-requires-in-loop-i c =
-    let first = said (c.negated-not-x.result ∷ get_or c.args.y.now c.loop-i.i blank ∷ []) (built c.loop-i.self) in
-    let second = said (get_or c.args.x.now c.loop-i.i blank ∷ c.negated-not-y.result ∷ []) first in
-    let more = equated_more c.args.x.now c.args.y.now c.loop-i.i c.negated-not-x.result c.negated-not-y.result (built c.loop-i.self) c.loop-i-test.true (omega arith) c.negated-not-x.ensures c.negated-not-y.ensures in
-    fits_next (said (get_or c.args.x.now c.loop-i.i blank ∷ c.negated-not-y.result ∷ [])) c.clause2.ensures (equated_grows (drop (c.loop-i.i + 1) c.args.x.now) (drop (c.loop-i.i + 1) c.args.y.now) second) (loop_room c.loop-i.invariant.0 (c.loop-i.invariant.1 ∙ more) c.requires.room)
+    let first = said (c.negated-not_x.result ∷ get_or c.args.y.now c.loop-i.i blank ∷ []) (built c.loop-i.self) in
+    let second = said (get_or c.args.x.now c.loop-i.i blank ∷ c.negated-not_y.result ∷ []) first in
+    let more = equated_more c.args.x.now c.args.y.now c.loop-i.i c.negated-not_x.result c.negated-not_y.result (built c.loop-i.self) c.loop-i-test.true (omega arith) c.negated-not_x.ensures c.negated-not_y.ensures in
+    fits_next (said (get_or c.args.x.now c.loop-i.i blank ∷ c.negated-not_y.result ∷ [])) c.clause2.ensures (equated_grows (drop (c.loop-i.i + 1) c.args.x.now) (drop (c.loop-i.i + 1) c.args.y.now) second) (loop_room c.loop-i.invariant.0 (c.loop-i.invariant.1 ∙ more) c.requires.room)
 
 pub loop-i-preserved : goal.loop-i-preserved
 loop-i-preserved c =
-    let first = said (c.negated-not-x.result ∷ get_or c.args.y.now c.loop-i.i blank ∷ []) (built c.loop-i.self) in
-    let second = said (get_or c.args.x.now c.loop-i.i blank ∷ c.negated-not-y.result ∷ []) first in
-    let more = equated_more c.args.x.now c.args.y.now c.loop-i.i c.negated-not-x.result c.negated-not-y.result (built c.loop-i.self) c.loop-i-test.true (omega arith) c.negated-not-x.ensures c.negated-not-y.ensures in
-    let wrote = wrote_next (said (get_or c.args.x.now c.loop-i.i blank ∷ c.negated-not-y.result ∷ [])) c.clause2.ensures c.clause2-in-loop-i.ensures in
+    let first = said (c.negated-not_x.result ∷ get_or c.args.y.now c.loop-i.i blank ∷ []) (built c.loop-i.self) in
+    let second = said (get_or c.args.x.now c.loop-i.i blank ∷ c.negated-not_y.result ∷ []) first in
+    let more = equated_more c.args.x.now c.args.y.now c.loop-i.i c.negated-not_x.result c.negated-not_y.result (built c.loop-i.self) c.loop-i-test.true (omega arith) c.negated-not_x.ensures c.negated-not_y.ensures in
+    let wrote = wrote_next (said (get_or c.args.x.now c.loop-i.i blank ∷ c.negated-not_y.result ∷ [])) c.clause2.ensures c.clause2-in-loop-i.ensures in
     (wrote_here c.loop-i.invariant.0 wrote, net_more (equated_n (drop (c.loop-i.i + 1) c.args.x.now) (drop (c.loop-i.i + 1) c.args.y.now)) second (c.loop-i.invariant.1 ∙ more) wrote)
 
 pub returns : goal.returns

@@ -12,10 +12,10 @@ pub loop-i-init : goal.loop-i-init
 loop-i-init c = (wrote_none _ c.requires.inside, refl)
 
 pub clause2-requires : goal.clause2-requires
-clause2-requires c = loop_fits c.loop-i.invariant.0 (c.loop-i.invariant.1 ∙ none_more c.args.b c.args.x.now c.loop-i.i c.negated-off.result c.negated-not-b.result (built c.loop-i.self) c.loop-i-test.true c.negated-off.ensures c.negated-not-b.ensures) (none_grows c.args.b (drop (c.loop-i.i + 1) c.args.x.now) (said (c.negated-off.result ∷ c.negated-not-b.result ∷ []) (built c.loop-i.self))) c.requires
+clause2-requires c = loop_fits c.loop-i.invariant.0 (c.loop-i.invariant.1 ∙ none_more c.args.b c.args.x.now c.loop-i.i c.negated-off.result c.negated-not_b.result (built c.loop-i.self) c.loop-i-test.true c.negated-off.ensures c.negated-not_b.ensures) (none_grows c.args.b (drop (c.loop-i.i + 1) c.args.x.now) (said (c.negated-off.result ∷ c.negated-not_b.result ∷ []) (built c.loop-i.self))) c.requires
 
 pub loop-i-preserved : goal.loop-i-preserved
-loop-i-preserved c = (wrote_here c.loop-i.invariant.0 c.clause2.ensures, net_more (none_n c.args.b (drop (c.loop-i.i + 1) c.args.x.now)) (said (c.negated-off.result ∷ c.negated-not-b.result ∷ []) (built c.loop-i.self)) (c.loop-i.invariant.1 ∙ none_more c.args.b c.args.x.now c.loop-i.i c.negated-off.result c.negated-not-b.result (built c.loop-i.self) c.loop-i-test.true c.negated-off.ensures c.negated-not-b.ensures) c.clause2.ensures)
+loop-i-preserved c = (wrote_here c.loop-i.invariant.0 c.clause2.ensures, net_more (none_n c.args.b (drop (c.loop-i.i + 1) c.args.x.now)) (said (c.negated-off.result ∷ c.negated-not_b.result ∷ []) (built c.loop-i.self)) (c.loop-i.invariant.1 ∙ none_more c.args.b c.args.x.now c.loop-i.i c.negated-off.result c.negated-not_b.result (built c.loop-i.self) c.loop-i-test.true c.negated-off.ensures c.negated-not_b.ensures) c.clause2.ensures)
 
 pub returns : goal.returns
 returns c = loop_wrote c.loop-i.invariant.0 (c.loop-i.invariant.1 ∙ none_all c.args.b c.args.x.now c.loop-i.i (built c.loop-i.self) c.loop-i-test.false)

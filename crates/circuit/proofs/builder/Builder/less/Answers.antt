@@ -20,8 +20,8 @@ majority-enough-requires c =
     let ys = compared c.args.signed c.args.y.now c.args.x.now in
     let long = compared_length c.args.signed c.args.x.now c.args.y.now c.requires.operand in
     let wide = compared_length c.args.signed c.args.y.now c.args.x.now (sym c.requires.operand) in
-    let t = majority_n c.compared-bit-left.result c.negated-inverse.result c.loop-i.enough (built c.loop-i.self) in
-    let more = borrow_more xs ys c.loop-i.i c.compared-bit-left.result c.negated-inverse.result c.loop-i.enough (built c.loop-i.self) (omega arith) (omega arith) c.compared-bit-left.ensures (c.negated-inverse.ensures ∙ ap negated c.compared-bit-right.ensures) in
+    let t = majority_n c.compared_bit-left.result c.negated-inverse.result c.loop-i.enough (built c.loop-i.self) in
+    let more = borrow_more xs ys c.loop-i.i c.compared_bit-left.result c.negated-inverse.result c.loop-i.enough (built c.loop-i.self) (omega arith) (omega arith) c.compared_bit-left.ensures (c.negated-inverse.ensures ∙ ap negated c.compared_bit-right.ensures) in
     loop_fits c.loop-i.invariant.0 (ap (λ r. r.0) (c.loop-i.invariant.1 ∙ more)) (borrow_grows (drop (c.loop-i.i + 1) xs) (drop (c.loop-i.i + 1) ys) t.1 t.0) c.requires.room
 
 pub loop-i-preserved : goal.loop-i-preserved
@@ -30,8 +30,8 @@ loop-i-preserved c =
     let ys = compared c.args.signed c.args.y.now c.args.x.now in
     let long = compared_length c.args.signed c.args.x.now c.args.y.now c.requires.operand in
     let wide = compared_length c.args.signed c.args.y.now c.args.x.now (sym c.requires.operand) in
-    let t = majority_n c.compared-bit-left.result c.negated-inverse.result c.loop-i.enough (built c.loop-i.self) in
-    let more = borrow_more xs ys c.loop-i.i c.compared-bit-left.result c.negated-inverse.result c.loop-i.enough (built c.loop-i.self) (omega arith) (omega arith) c.compared-bit-left.ensures (c.negated-inverse.ensures ∙ ap negated c.compared-bit-right.ensures) in
+    let t = majority_n c.compared_bit-left.result c.negated-inverse.result c.loop-i.enough (built c.loop-i.self) in
+    let more = borrow_more xs ys c.loop-i.i c.compared_bit-left.result c.negated-inverse.result c.loop-i.enough (built c.loop-i.self) (omega arith) (omega arith) c.compared_bit-left.ensures (c.negated-inverse.ensures ∙ ap negated c.compared_bit-right.ensures) in
     (wrote_here c.loop-i.invariant.0 c.majority-enough.ensures.wrote, carried_more (borrow_n (drop (c.loop-i.i + 1) xs) (drop (c.loop-i.i + 1) ys)) t c.majority-enough.result (c.loop-i.invariant.1 ∙ more) c.majority-enough.ensures.wrote c.majority-enough.ensures.output)
 
 pub returns : goal.returns

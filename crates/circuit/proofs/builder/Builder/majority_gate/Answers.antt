@@ -18,22 +18,22 @@ pub fresh-output-requires : goal.fresh-output-requires
 fresh-output-requires c = gate_fresh (λ o. majority_rows o c.args.a c.args.b c.args.c) c.requires
 
 pub clause3-requires : goal.clause3-requires
-clause3-requires c = row_fits (start c.requires c.fresh-output.ensures.wrote c.fresh-output.ensures.literal c.negated-off.ensures c.negated-not-a.ensures c.negated-not-b.ensures c.negated-not-c.ensures)
+clause3-requires c = row_fits (start c.requires c.fresh-output.ensures.wrote c.fresh-output.ensures.literal c.negated-off.ensures c.negated-not_a.ensures c.negated-not_b.ensures c.negated-not_c.ensures)
 
 pub clause3-requires-2 : goal.clause3-requires-2
-clause3-requires-2 c = row_fits (row_written (start c.requires c.fresh-output.ensures.wrote c.fresh-output.ensures.literal c.negated-off.ensures c.negated-not-a.ensures c.negated-not-b.ensures c.negated-not-c.ensures) c.clause3.ensures)
+clause3-requires-2 c = row_fits (row_written (start c.requires c.fresh-output.ensures.wrote c.fresh-output.ensures.literal c.negated-off.ensures c.negated-not_a.ensures c.negated-not_b.ensures c.negated-not_c.ensures) c.clause3.ensures)
 
 pub clause3-requires-3 : goal.clause3-requires-3
-clause3-requires-3 c = row_fits (row_written (row_written (start c.requires c.fresh-output.ensures.wrote c.fresh-output.ensures.literal c.negated-off.ensures c.negated-not-a.ensures c.negated-not-b.ensures c.negated-not-c.ensures) c.clause3.ensures) c.clause3-2.ensures)
+clause3-requires-3 c = row_fits (row_written (row_written (start c.requires c.fresh-output.ensures.wrote c.fresh-output.ensures.literal c.negated-off.ensures c.negated-not_a.ensures c.negated-not_b.ensures c.negated-not_c.ensures) c.clause3.ensures) c.clause3-2.ensures)
 
 pub clause3-requires-4 : goal.clause3-requires-4
-clause3-requires-4 c = row_fits (row_written (row_written (row_written (start c.requires c.fresh-output.ensures.wrote c.fresh-output.ensures.literal c.negated-off.ensures c.negated-not-a.ensures c.negated-not-b.ensures c.negated-not-c.ensures) c.clause3.ensures) c.clause3-2.ensures) c.clause3-3.ensures)
+clause3-requires-4 c = row_fits (row_written (row_written (row_written (start c.requires c.fresh-output.ensures.wrote c.fresh-output.ensures.literal c.negated-off.ensures c.negated-not_a.ensures c.negated-not_b.ensures c.negated-not_c.ensures) c.clause3.ensures) c.clause3-2.ensures) c.clause3-3.ensures)
 
 pub clause3-requires-5 : goal.clause3-requires-5
-clause3-requires-5 c = row_fits (row_written (row_written (row_written (row_written (start c.requires c.fresh-output.ensures.wrote c.fresh-output.ensures.literal c.negated-off.ensures c.negated-not-a.ensures c.negated-not-b.ensures c.negated-not-c.ensures) c.clause3.ensures) c.clause3-2.ensures) c.clause3-3.ensures) c.clause3-4.ensures)
+clause3-requires-5 c = row_fits (row_written (row_written (row_written (row_written (start c.requires c.fresh-output.ensures.wrote c.fresh-output.ensures.literal c.negated-off.ensures c.negated-not_a.ensures c.negated-not_b.ensures c.negated-not_c.ensures) c.clause3.ensures) c.clause3-2.ensures) c.clause3-3.ensures) c.clause3-4.ensures)
 
 pub clause3-requires-6 : goal.clause3-requires-6
-clause3-requires-6 c = row_fits (row_written (row_written (row_written (row_written (row_written (start c.requires c.fresh-output.ensures.wrote c.fresh-output.ensures.literal c.negated-off.ensures c.negated-not-a.ensures c.negated-not-b.ensures c.negated-not-c.ensures) c.clause3.ensures) c.clause3-2.ensures) c.clause3-3.ensures) c.clause3-4.ensures) c.clause3-5.ensures)
+clause3-requires-6 c = row_fits (row_written (row_written (row_written (row_written (row_written (start c.requires c.fresh-output.ensures.wrote c.fresh-output.ensures.literal c.negated-off.ensures c.negated-not_a.ensures c.negated-not_b.ensures c.negated-not_c.ensures) c.clause3.ensures) c.clause3-2.ensures) c.clause3-3.ensures) c.clause3-4.ensures) c.clause3-5.ensures)
 
 pub returns : goal.returns
-returns c = record { wrote = rows_written (row_written (row_written (row_written (row_written (row_written (row_written (start c.requires c.fresh-output.ensures.wrote c.fresh-output.ensures.literal c.negated-off.ensures c.negated-not-a.ensures c.negated-not-b.ensures c.negated-not-c.ensures) c.clause3.ensures) c.clause3-2.ensures) c.clause3-3.ensures) c.clause3-4.ensures) c.clause3-5.ensures) c.clause3-6.ensures); output = c.fresh-output.ensures.literal }
+returns c = record { wrote = rows_written (row_written (row_written (row_written (row_written (row_written (row_written (start c.requires c.fresh-output.ensures.wrote c.fresh-output.ensures.literal c.negated-off.ensures c.negated-not_a.ensures c.negated-not_b.ensures c.negated-not_c.ensures) c.clause3.ensures) c.clause3-2.ensures) c.clause3-3.ensures) c.clause3-4.ensures) c.clause3-5.ensures) c.clause3-6.ensures); output = c.fresh-output.ensures.literal }

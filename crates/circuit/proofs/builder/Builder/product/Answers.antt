@@ -10,8 +10,8 @@ use Rattle.circuit.proofs.builder.Builder.product.Goals as goal
 pub loop-i-init : goal.loop-i-init
 loop-i-init c = (wrote_none _ c.requires.room.inside, rows_none c.args.x.now c.args.y.now c.args.out.now c.args.carries.now (built c.args.self.now) c.requires.word c.requires.rows)
 
-pub product-row-requires : goal.product-row-requires
-product-row-requires c =
+pub product_row-requires : goal.product_row-requires
+product_row-requires c =
     let is = row_is c.args.x.now c.args.y.now c.loop-i.out c.loop-i.carries c.loop-i.i (built c.args.self.now) (built c.loop-i.self) (omega arith) (omega arith) c.requires.operand (omega arith) c.loop-i.invariant.1 in
     let grow = rows_grow c.args.x.now c.args.y.now (c.loop-i.i - 1) (built c.args.self.now) (omega arith) c.requires.operand in
     record {
@@ -22,8 +22,8 @@ product-row-requires c =
 
 pub loop-i-preserved : goal.loop-i-preserved
 loop-i-preserved c = (
-  wrote_here c.loop-i.invariant.0 c.product-row.ensures.wrote,
-  row_again c.args.x.now c.args.y.now c.loop-i.out c.loop-i.carries c.product-row.new.word c.product-row.result c.loop-i.i (built c.args.self.now) (built c.loop-i.self) (omega arith) (omega arith) c.requires.operand (omega arith) (omega arith) c.loop-i.invariant.1 c.product-row.ensures.wrote c.product-row.ensures.sum c.product-row.ensures.over,
+  wrote_here c.loop-i.invariant.0 c.product_row.ensures.wrote,
+  row_again c.args.x.now c.args.y.now c.loop-i.out c.loop-i.carries c.product_row.new.word c.product_row.result c.loop-i.i (built c.args.self.now) (built c.loop-i.self) (omega arith) (omega arith) c.requires.operand (omega arith) (omega arith) c.loop-i.invariant.1 c.product_row.ensures.wrote c.product_row.ensures.sum c.product_row.ensures.over,
 )
 
 pub returns : goal.returns

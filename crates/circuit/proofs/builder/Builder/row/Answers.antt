@@ -12,8 +12,8 @@ use Rattle.circuit.proofs.builder.Builder.row.Goals as goal
 pub loop-i-init : goal.loop-i-init
 loop-i-init c = (wrote_none _ c.requires.room.inside, refl)
 
-pub row-bit-sum-requires : goal.row-bit-sum-requires
-row-bit-sum-requires c =
+pub row_bit-sum-requires : goal.row_bit-sum-requires
+row_bit-sum-requires c =
     let t = row_bit_n c.args.x (get_or c.args.y.now c.loop-i.i blank) (get_or c.loop-i.word c.loop-i.i blank) c.loop-i.over (built c.loop-i.self) in
     let more = row_more c.args.x c.args.y.now c.loop-i.word c.loop-i.i c.loop-i.over (built c.loop-i.self) c.loop-i-test.true (omega arith) in
     loop_fits c.loop-i.invariant.0 (ap (λ r. r.0) (c.loop-i.invariant.1 ∙ ap (after (take c.loop-i.i c.loop-i.word)) more)) (row_grows c.args.x (drop (c.loop-i.i + 1) c.args.y.now) (drop (c.loop-i.i + 1) c.loop-i.word) t.1.1 t.0) c.requires.room
@@ -22,10 +22,10 @@ pub loop-i-preserved : goal.loop-i-preserved
 loop-i-preserved c =
     let t = row_bit_n c.args.x (get_or c.args.y.now c.loop-i.i blank) (get_or c.loop-i.word c.loop-i.i blank) c.loop-i.over (built c.loop-i.self) in
     let more = row_more c.args.x c.args.y.now c.loop-i.word c.loop-i.i c.loop-i.over (built c.loop-i.self) c.loop-i-test.true (omega arith) in
-    let new = set c.loop-i.word c.loop-i.i c.row-bit-sum.result.bit in
-    let next = bit_more (row_n c.args.x (drop (c.loop-i.i + 1) c.args.y.now) (drop (c.loop-i.i + 1) c.loop-i.word)) t c.loop-i.word c.loop-i.i c.row-bit-sum.result.bit c.row-bit-sum.result.carry (omega arith) (c.loop-i.invariant.1 ∙ ap (after (take c.loop-i.i c.loop-i.word)) more) c.row-bit-sum.ensures.wrote c.row-bit-sum.ensures.bit c.row-bit-sum.ensures.over in
-    let same = drop-set-lt (c.loop-i.i + 1) c.loop-i.word c.loop-i.i c.row-bit-sum.result.bit (omega arith) in
-    (wrote_here c.loop-i.invariant.0 c.row-bit-sum.ensures.wrote, next ∙ ap (λ l. after (take (c.loop-i.i + 1) new) (row_n c.args.x (drop (c.loop-i.i + 1) c.args.y.now) l c.row-bit-sum.result.carry (built c.row-bit-sum.new.self))) (sym same))
+    let new = set c.loop-i.word c.loop-i.i c.row_bit-sum.result.bit in
+    let next = bit_more (row_n c.args.x (drop (c.loop-i.i + 1) c.args.y.now) (drop (c.loop-i.i + 1) c.loop-i.word)) t c.loop-i.word c.loop-i.i c.row_bit-sum.result.bit c.row_bit-sum.result.carry (omega arith) (c.loop-i.invariant.1 ∙ ap (after (take c.loop-i.i c.loop-i.word)) more) c.row_bit-sum.ensures.wrote c.row_bit-sum.ensures.bit c.row_bit-sum.ensures.over in
+    let same = drop-set-lt (c.loop-i.i + 1) c.loop-i.word c.loop-i.i c.row_bit-sum.result.bit (omega arith) in
+    (wrote_here c.loop-i.invariant.0 c.row_bit-sum.ensures.wrote, next ∙ ap (λ l. after (take (c.loop-i.i + 1) new) (row_n c.args.x (drop (c.loop-i.i + 1) c.args.y.now) l c.row_bit-sum.result.carry (built c.row_bit-sum.new.self))) (sym same))
 
 pub returns : goal.returns
 returns c =

@@ -18,15 +18,15 @@ loop-i-init c = (wrote_none _ c.requires.room.inside, refl)
 pub choice-requires : goal.choice-requires
 choice-requires c =
     let long = moved_length c.args.left c.args.incoming c.args.places c.args.x.now in
-    let t = choice_n c.args.s c.moved-bit-bit.result (get_or c.args.x.now c.loop-i.i blank) (built c.loop-i.self) in
-    let more = choose_more c.args.s (moved c.args.left c.args.incoming c.args.places c.args.x.now) c.args.x.now c.loop-i.i c.moved-bit-bit.result (built c.loop-i.self) (omega arith) c.loop-i-test.true c.moved-bit-bit.ensures in
+    let t = choice_n c.args.s c.moved_bit-bit.result (get_or c.args.x.now c.loop-i.i blank) (built c.loop-i.self) in
+    let more = choose_more c.args.s (moved c.args.left c.args.incoming c.args.places c.args.x.now) c.args.x.now c.loop-i.i c.moved_bit-bit.result (built c.loop-i.self) (omega arith) c.loop-i-test.true c.moved_bit-bit.ensures in
     loop_fits c.loop-i.invariant.0 (ap (λ r. r.0) (c.loop-i.invariant.1 ∙ ap (after (take c.loop-i.i c.loop-i.out)) more)) (choose_grows c.args.s (drop (c.loop-i.i + 1) (moved c.args.left c.args.incoming c.args.places c.args.x.now)) (drop (c.loop-i.i + 1) c.args.x.now) t.0) c.requires.room
 
 pub loop-i-preserved : goal.loop-i-preserved
 loop-i-preserved c =
     let long = moved_length c.args.left c.args.incoming c.args.places c.args.x.now in
-    let t = choice_n c.args.s c.moved-bit-bit.result (get_or c.args.x.now c.loop-i.i blank) (built c.loop-i.self) in
-    let more = choose_more c.args.s (moved c.args.left c.args.incoming c.args.places c.args.x.now) c.args.x.now c.loop-i.i c.moved-bit-bit.result (built c.loop-i.self) (omega arith) c.loop-i-test.true c.moved-bit-bit.ensures in
+    let t = choice_n c.args.s c.moved_bit-bit.result (get_or c.args.x.now c.loop-i.i blank) (built c.loop-i.self) in
+    let more = choose_more c.args.s (moved c.args.left c.args.incoming c.args.places c.args.x.now) c.args.x.now c.loop-i.i c.moved_bit-bit.result (built c.loop-i.self) (omega arith) c.loop-i-test.true c.moved_bit-bit.ensures in
     let rest : Unit {0} → Net → Net × (List Literal × Unit {0}) = λ s n. alone (choose_n c.args.s (drop (c.loop-i.i + 1) (moved c.args.left c.args.incoming c.args.places c.args.x.now)) (drop (c.loop-i.i + 1) c.args.x.now) n) in
     (wrote_here c.loop-i.invariant.0 c.choice.ensures.wrote, bit_more rest (t.0, (t.1, tt)) c.loop-i.out c.loop-i.i c.choice.result tt (omega arith) (c.loop-i.invariant.1 ∙ ap (after (take c.loop-i.i c.loop-i.out)) more) c.choice.ensures.wrote c.choice.ensures.output refl)
 

@@ -16,25 +16,25 @@ loop-i-init c = (wrote_none _ c.requires.room.inside, refl)
 
 pub any-past-requires : goal.any-past-requires
 any-past-requires c =
-    let old = c.copy-from-slice.new.self in
+    let old = c.copy_from_slice.new.self in
     let count = take (length c.args.count.now - c.loop-i.i) (drop c.loop-i.i c.args.count.now) in
-    let past = shift_past c.args.left c.args.incoming (length c.args.out.now) c.loop-i.places c.loop-i.out old c.args.count.now count c.loop-i.i (built c.loop-i.self) c.loop-i-test.true (omega arith) (omega arith) c.copy-from-slice.ensures.after (take_rest c.args.count.now c.loop-i.i) in
+    let past = shift_past c.args.left c.args.incoming (length c.args.out.now) c.loop-i.places c.loop-i.out old c.args.count.now count c.loop-i.i (built c.loop-i.self) c.loop-i-test.true (omega arith) (omega arith) c.copy_from_slice.ensures.after (take_rest c.args.count.now c.loop-i.i) in
     let a = any_n count low (built c.loop-i.self) in
     loop_fits c.loop-i.invariant.0 (ap (λ r. r.0) (c.loop-i.invariant.1 ∙ past)) (choose_grows a.1 (moved c.args.left c.args.incoming c.loop-i.places old) old a.0) c.requires.room
 
 pub stage-requires : goal.stage-requires
 stage-requires c =
-    let old = c.copy-from-slice.new.self in
+    let old = c.copy_from_slice.new.self in
     let count = take (length c.args.count.now - c.loop-i.i) (drop c.loop-i.i c.args.count.now) in
-    let past = shift_past c.args.left c.args.incoming (length c.args.out.now) c.loop-i.places c.loop-i.out old c.args.count.now count c.loop-i.i (built c.loop-i.self) c.loop-i-test.true (omega arith) (omega arith) c.copy-from-slice.ensures.after (take_rest c.args.count.now c.loop-i.i) in
+    let past = shift_past c.args.left c.args.incoming (length c.args.out.now) c.loop-i.places c.loop-i.out old c.args.count.now count c.loop-i.i (built c.loop-i.self) c.loop-i-test.true (omega arith) (omega arith) c.copy_from_slice.ensures.after (take_rest c.args.count.now c.loop-i.i) in
     let room = loop_room c.loop-i.invariant.0 (ap (λ r. r.0) (c.loop-i.invariant.1 ∙ past)) c.requires.room in
-    record { word = ap length (sym c.copy-from-slice.ensures.after); room = fits_then (λ s k. (choose_n s (moved c.args.left c.args.incoming c.loop-i.places old) old k).0) c.any-past.ensures.wrote c.any-past.ensures.output (grows_same _) room }
+    record { word = ap length (sym c.copy_from_slice.ensures.after); room = fits_then (λ s k. (choose_n s (moved c.args.left c.args.incoming c.loop-i.places old) old k).0) c.any-past.ensures.wrote c.any-past.ensures.output (grows_same _) room }
 
 pub returns-then-places-out : goal.returns-then-places-out
 returns-then-places-out c =
-    let old = c.copy-from-slice.new.self in
+    let old = c.copy_from_slice.new.self in
     let count = take (length c.args.count.now - c.loop-i.i) (drop c.loop-i.i c.args.count.now) in
-    let past = shift_past c.args.left c.args.incoming (length c.args.out.now) c.loop-i.places c.loop-i.out old c.args.count.now count c.loop-i.i (built c.loop-i.self) c.loop-i-test.true (omega arith) (omega arith) c.copy-from-slice.ensures.after (take_rest c.args.count.now c.loop-i.i) in
+    let past = shift_past c.args.left c.args.incoming (length c.args.out.now) c.loop-i.places c.loop-i.out old c.args.count.now count c.loop-i.i (built c.loop-i.self) c.loop-i-test.true (omega arith) (omega arith) c.copy_from_slice.ensures.after (take_rest c.args.count.now c.loop-i.i) in
     let whole = c.loop-i.invariant.1 ∙ past in
     record {
       wrote = loop_last c.loop-i.invariant.0 (ap (λ r. r.0) whole) (wrote_then (λ s k. (choose_n s (moved c.args.left c.args.incoming c.loop-i.places old) old k).0) c.any-past.ensures.wrote c.any-past.ensures.output c.stage.ensures.wrote);
@@ -43,19 +43,19 @@ returns-then-places-out c =
 
 pub stage-requires-in-loop-i : goal.stage-requires-in-loop-i
 stage-requires-in-loop-i c =
-    let old = c.copy-from-slice.new.self in
+    let old = c.copy_from_slice.new.self in
     let t = choose_n (get_or c.args.count.now c.loop-i.i blank) (moved c.args.left c.args.incoming c.loop-i.places old) old (built c.loop-i.self) in
-    let more = shift_more c.args.left c.args.incoming (length c.args.out.now) c.loop-i.places c.loop-i.out old c.args.count.now c.loop-i.i (built c.loop-i.self) c.loop-i-test.true (omega arith) c.copy-from-slice.ensures.after in
+    let more = shift_more c.args.left c.args.incoming (length c.args.out.now) c.loop-i.places c.loop-i.out old c.args.count.now c.loop-i.i (built c.loop-i.self) c.loop-i-test.true (omega arith) c.copy_from_slice.ensures.after in
     record {
-      word = ap length (sym c.copy-from-slice.ensures.after);
+      word = ap length (sym c.copy_from_slice.ensures.after);
       room = loop_fits c.loop-i.invariant.0 (ap (λ r. r.0) (c.loop-i.invariant.1 ∙ more)) (shift_grows c.args.left c.args.incoming (length c.args.out.now) (c.loop-i.places + c.loop-i.places) t.1 (drop (c.loop-i.i + 1) c.args.count.now) t.0) c.requires.room;
     }
 
 pub loop-i-preserved : goal.loop-i-preserved
 loop-i-preserved c =
-    let old = c.copy-from-slice.new.self in
+    let old = c.copy_from_slice.new.self in
     let t = choose_n (get_or c.args.count.now c.loop-i.i blank) (moved c.args.left c.args.incoming c.loop-i.places old) old (built c.loop-i.self) in
-    let more = shift_more c.args.left c.args.incoming (length c.args.out.now) c.loop-i.places c.loop-i.out old c.args.count.now c.loop-i.i (built c.loop-i.self) c.loop-i-test.true (omega arith) c.copy-from-slice.ensures.after in
+    let more = shift_more c.args.left c.args.incoming (length c.args.out.now) c.loop-i.places c.loop-i.out old c.args.count.now c.loop-i.i (built c.loop-i.self) c.loop-i-test.true (omega arith) c.copy_from_slice.ensures.after in
     (wrote_here c.loop-i.invariant.0 c.stage-in-loop-i.ensures.wrote, carried_more (λ s k. shift_n c.args.left c.args.incoming (length c.args.out.now) (c.loop-i.places + c.loop-i.places) s (drop (c.loop-i.i + 1) c.args.count.now) k) t c.stage-in-loop-i.new.out (c.loop-i.invariant.1 ∙ more) c.stage-in-loop-i.ensures.wrote c.stage-in-loop-i.ensures.result)
 
 pub returns : goal.returns

@@ -12,12 +12,12 @@ pub loop-k-preserved : goal.loop-k-preserved
 loop-k-preserved c = λ r rep.
     c.and-needs.ensures
     ∙ measure_drop (bits r.width) r.needs c.loop-k.k _ c.loop-k.needs c.loop-k-test.true (omega (arith, rep.needed))
-    (need_measure c.args.rule.now r c.node-measures-all.result _ c.node-measures-all.ensures rep (omega arith)) (c.loop-k.invariant r rep)
+    (need_measure c.args.rule.now r c.node_measures-all.result _ c.node_measures-all.ensures rep (omega arith)) (c.loop-k.invariant r rep)
 
 pub returns : goal.returns
 returns c = λ r rep.
     let none : c.loop-k.k ≡ 0 = omega arith in
     let p = c.loop-k.invariant r rep ∙ ap (λ k. measure_all (bits r.width) (drop k r.needs)) none in
-    let q = from_measure c.args.rule.now r c.node-measures-all.result c.node-measures-all.ensures rep in
-    let s = to_measure c.args.rule.now r c.node-measures-all.result c.node-measures-all.ensures rep in
+    let q = from_measure c.args.rule.now r c.node_measures-all.result c.node_measures-all.ensures rep in
+    let s = to_measure c.args.rule.now r c.node_measures-all.result c.node_measures-all.ensures rep in
     rw (p, q, s)
