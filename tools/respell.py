@@ -15,7 +15,9 @@ import sys
 
 WORD = r"[^\s(){}\[\],;.«»\"|]+"
 DECLARED = re.compile(r"^(?:abbrev )?(?:pub )?(?:(?:record|data|ruleset|unfoldable) )?(?:pub )?(" + WORD + r")(?= |$)")
-INNER = re.compile(r"^\s+(?:pub )?(" + WORD + r") :(?: |$)")
+INNER = re.compile(r"^\s+(?:abbrev )?(?:pub )?(" + WORD + r") :(?: |$)")
+RENAMED = re.compile(r"^use Rattle\b.* as (?!goal$)")
+ALIAS = re.compile(r" as (" + WORD + ")")
 # A lemma that would get its function's name.
 LEMMAS = {
     n: n.replace("-", "_") + "_lem"
@@ -57,6 +59,8 @@ def declared(path):
     else:
         goals = set()
     for l in lines:
+        if RENAMED.match(l):
+            names |= set(ALIAS.findall(l))
         if re.match(r"\S", l):
             kind = l.replace("pub ", "").split(" ")[0]
             m = DECLARED.match(l)

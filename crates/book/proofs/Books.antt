@@ -1,13 +1,13 @@
 -- A text is the writing of one rule and of one book at most.
-use Rattle.std.proofs.Common.{◌≡◌, ℕ, zero, suc, ◌+◌, ◌^◌, ◌<◌, ◌≤◌, Bool, true, false, ◌&&◌, eqb, leb, List, [], ◌∷◌, ◌++◌, length, sym, refl, ap, ◌∙◌, subst, append_assoc, append-nil, arith}
+use Rattle.std.proofs.Common.{◌≡◌, ℕ, ◌+◌, ◌^◌, ◌<◌, ◌≤◌, true, eqb, List, [], ◌∷◌, ◌++◌, length, sym, refl, ap, ◌∙◌, subst, append_assoc, append-nil, arith}
 use Rattle.std.proofs.lemmas.List.{length-append, same_from_push}
 use Rattle.std.proofs.lemmas.Bool.{and_parts, leb-true}
 use Rattle.words.specs.declared.Width.{Width}
 use Rattle.words.specs.declared.Width.TheVariants.{W8, W16, W32, W64}
 use Rattle.words.specs.Words.{bits, pick}
-use Rattle.terms.specs.Terms.{Term, Rule, terms, ops_all}
+use Rattle.terms.specs.Terms.{Rule, terms, ops_all}
 use Rattle.terms.specs.Limits.{ok_terms, ok_rule}
-use Rattle.book.specs.Text.{decimal, words, write_terms, write_rule, write_book, ok_rules, Book, OneBook}
+use Rattle.book.specs.Text.{write_rule, write_book, ok_rules, OneBook}
 use Rattle.book.proofs.Unique.{first_same, rest_same, never_empty, decimal_same, one_list, Same}
 
 -- ---- one rule

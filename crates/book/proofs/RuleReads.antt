@@ -1,5 +1,5 @@
 -- Reading rules and a book: what a step of it shows, and what a fault shows.
-use Rattle.std.proofs.Common.{◌≡◌, ℕ, zero, suc, ◌+◌, ◌^◌, ◌<◌, ◌≤◌, Bool, true, false, ◌&&◌, leb, List, [], ◌∷◌, ◌++◌, length, get_or, take, codes, sym, refl, ap, ◌∙◌, subst, append_assoc, append-nil, arith}
+use Rattle.std.proofs.Common.{◌≡◌, ℕ, zero, suc, ◌+◌, ◌^◌, ◌<◌, ◌≤◌, true, List, [], ◌∷◌, ◌++◌, length, get_or, take, codes, sym, refl, ap, ◌∙◌, subst, append_assoc, append-nil, arith}
 use Rattle.std.proofs.lemmas.List.{length-append, take_more, get_or_at}
 use Rattle.std.proofs.lemmas.Bool.{and_parts, and_from, le-leb, leb-true}
 use Rattle.words.specs.declared.Width.{Width}
@@ -9,11 +9,10 @@ use Rattle.terms.specs.declared.rule.RuleNodes.{RuleNodes}
 use Rattle.terms.specs.Terms.{Term, Rule, terms, ops_all}
 use Rattle.terms.specs.Limits.{ok_terms, ok_rule}
 use Rattle.terms.specs.Nodes.{Rooted}
-use Rattle.terms.specs.Represents.{Represents}
 use Rattle.book.specs.declared.token.Token.{Token}
 use Rattle.book.specs.declared.token.Token.TheVariants as token
-use Rattle.book.specs.Text.{decimal, words, write_terms, write_rule, write_book, ok_rules, Book}
-use Rattle.book.specs.Scan.{rest, Found, At}
+use Rattle.book.specs.Text.{decimal, write_terms, write_rule, write_book, ok_rules, Book}
+use Rattle.book.specs.Scan.{rest, At}
 use Rattle.book.specs.Reading.{IsNumberRead, NoNumber, IsTermsRead, NoTerms, IsHeaderRead, NoHeader, IsRuleRead, NoRule, IsRulesRead}
 use Rattle.book.proofs.Unique.{first_same, rest_same, never_empty, decimal_same}
 use Rattle.book.proofs.Books.{limits, length_terms, width_same, bits_short, one_rule, book_begins, no_rules}

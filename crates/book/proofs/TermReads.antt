@@ -1,5 +1,5 @@
 -- Reading terms: what a step of it shows, and what a fault shows.
-use Rattle.std.proofs.Common.{◌≡◌, ℕ, zero, suc, ◌+◌, ◌*◌, ◌^◌, ◌<◌, ◌≤◌, Bool, true, false, ◌&&◌, ltb, leb, ◌≢◌, ◌⊎◌, List, [], ◌∷◌, ◌++◌, length, get_or, set, replicate, sym, refl, ap, ◌∙◌, subst, inl, inr, append_assoc, append-nil, arith}
+use Rattle.std.proofs.Common.{◌≡◌, ℕ, zero, suc, ◌+◌, ◌^◌, ◌<◌, ◌≤◌, true, false, List, [], ◌∷◌, ◌++◌, length, get_or, set, replicate, sym, refl, ap, ◌∙◌, subst, inl, inr, append_assoc, append-nil, arith}
 use Rattle.std.proofs.lemmas.List.{length-set, length-append, get_or-set_same, get_or-set_other}
 use Rattle.std.proofs.lemmas.Bool.{and_parts, and_from, both_ways, ltb-true, lt-ltb, cases_eq}
 use Rattle.words.specs.declared.Width.{Width}
@@ -20,9 +20,9 @@ use Rattle.book.specs.declared.token.Token.TheVariants as token
 use Rattle.book.specs.Text.{decimal, write_term, write_terms}
 use Rattle.book.specs.Tokens.{leaf_name, leaf_term, leaf_node, operation_name, operation_node, arity, applied, Writes, Is}
 use Rattle.book.specs.Scan.{rest, Found, At}
-use Rattle.book.specs.Reading.{IsNumberRead, NoNumber, Kept, Pushed, IsLeafRead, NoLeaf, IsTermRead, NoTerm, IsTermsRead, NoTerms}
+use Rattle.book.specs.Reading.{IsNumberRead, NoNumber, Pushed, IsLeafRead, NoLeaf, IsTermRead, NoTerm, IsTermsRead, NoTerms}
 use Rattle.book.proofs.Tokens.{one_token}
-use Rattle.book.proofs.Unique.{first_same, rest_same, never_empty, head, head_writes, Begins, begins, Parts, one, two, three, parts, applied_writes, applied_ok, applied_ops, list_begins, one_list, decimal_same}
+use Rattle.book.proofs.Unique.{first_same, rest_same, never_empty, head, head_writes, Begins, begins, Parts, one, two, three, parts, applied_writes, applied_ok, applied_ops, list_begins, decimal_same}
 use Rattle.book.proofs.Places.{stands_kept, rooted_more, pushed_kept, kept_refl, kept_trans}
 
 -- ---- the word at a place

@@ -1,20 +1,16 @@
 -- A word is written by one token at most.
-use Rattle.std.proofs.Common.{◌≡◌, ℕ, ◌^◌, ◌<◌, ◌≤◌, Bool, true, false, ◌&&◌, ltb, leb, ◌⊎◌, List, [], ◌∷◌, ◌++◌, length, get_or, codes, sym, refl, ap, ◌∙◌, subst, inl, inr, arith}
+use Rattle.std.proofs.Common.{◌≡◌, ℕ, ◌<◌, ◌≤◌, false, leb, List, [], ◌∷◌, length, get_or, codes, sym, ap, ◌∙◌, arith}
 use Rattle.std.specs.Str.{bytes_eq}
 use Rattle.std.proofs.lemmas.Bool.{le-leb, and_from}
-use Rattle.words.specs.declared.UnaryOp.{UnaryOp}
 use Rattle.words.specs.declared.UnaryOp.TheVariants.{Not, Neg}
-use Rattle.words.specs.declared.BinaryOp.{BinaryOp}
 use Rattle.words.specs.declared.BinaryOp.TheVariants.{Add, Sub, Mul, Udiv, Urem, And, Or, Xor, Shl, Lshr, Ashr, Comp, Ult, Slt}
 use Rattle.words.specs.Words.{pick}
-use Rattle.book.specs.declared.token.Leaf.{Leaf}
 use Rattle.book.specs.declared.token.Leaf.TheVariants.{Any, Con, Lit}
-use Rattle.book.specs.declared.token.Operation.{Operation}
 use Rattle.book.specs.declared.token.Operation.TheVariants.{Unary, Binary, Ite}
 use Rattle.book.specs.declared.token.Token.{Token}
 use Rattle.book.specs.declared.token.Token.TheVariants as token
 use Rattle.book.specs.Text.{decimal, unary_name, binary_name}
-use Rattle.book.specs.Tokens.{leaf_name, operation_name, Writes}
+use Rattle.book.specs.Tokens.{Writes}
 use Rattle.book.proofs.Numbers.{value_from, value_decimal, decimal_all, decimal_nonempty, Digits}
 
 -- the token that a word is, computed: a device to tell two tokens apart

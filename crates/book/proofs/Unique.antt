@@ -1,20 +1,20 @@
 -- A text is the writing of one term, of one rule and of one book at most.
-use Rattle.std.proofs.Common.{◌≡◌, ℕ, zero, suc, ◌+◌, ◌^◌, ◌<◌, ◌≤◌, Bool, true, false, ◌&&◌, eqb, ltb, leb, ◌⊎◌, List, [], ◌∷◌, ◌++◌, length, get_or, codes, sym, refl, ap, ◌∙◌, subst, inl, inr, append_assoc, append-nil, arith}
+use Rattle.std.proofs.Common.{◌≡◌, ℕ, ◌+◌, ◌^◌, ◌<◌, Bool, true, false, ◌&&◌, ltb, List, [], ◌∷◌, ◌++◌, length, get_or, codes, sym, refl, ap, ◌∙◌, subst, append_assoc, append-nil, arith}
 use Rattle.std.proofs.lemmas.Bool.{and_parts, ltb-true}
 use Rattle.words.specs.declared.UnaryOp.{UnaryOp}
 use Rattle.words.specs.declared.BinaryOp.{BinaryOp}
 use Rattle.words.specs.declared.Width.{Width}
 use Rattle.words.specs.declared.Width.TheVariants.{W8, W16, W32, W64}
-use Rattle.words.specs.Words.{bits, pick}
-use Rattle.terms.specs.Terms.{Term, any, con, lit, unary, binary, ite, Rule, terms, ops, ops_all}
-use Rattle.terms.specs.Limits.{ok_term, ok_terms, ok_rule}
+use Rattle.words.specs.Words.{bits}
+use Rattle.terms.specs.Terms.{Term, any, con, lit, unary, binary, ite, ops, ops_all}
+use Rattle.terms.specs.Limits.{ok_term, ok_terms}
 use Rattle.book.specs.declared.token.Leaf.{Leaf}
 use Rattle.book.specs.declared.token.Leaf.TheVariants.{Any, Con, Lit}
 use Rattle.book.specs.declared.token.Operation.{Operation}
 use Rattle.book.specs.declared.token.Operation.TheVariants.{Unary, Binary, Ite}
 use Rattle.book.specs.declared.token.Token.{Token}
 use Rattle.book.specs.declared.token.Token.TheVariants as token
-use Rattle.book.specs.Text.{decimal, unary_name, binary_name, write_term, write_terms, write_rule, write_book, ok_rules, Book, OneBook}
+use Rattle.book.specs.Text.{decimal, unary_name, binary_name, write_term, write_terms}
 use Rattle.book.specs.Tokens.{leaf_term, operation_name, arity, applied, Writes}
 use Rattle.book.proofs.Numbers.{value_from, value_decimal}
 use Rattle.book.proofs.Tokens.{one_token}

@@ -1,5 +1,5 @@
 -- Where a place of a text is, as a reader counts: its line, and the number of the word in the line.
-use Rattle.std.specs.Prelude.{ℕ, zero, suc, ◌+◌, ◌-◌, Bool, true, not, ◌&&◌, ◌||◌, List, ◌==◌, slice_index}
+use Rattle.std.specs.Prelude.{ℕ, zero, suc, ◌+◌, ◌-◌, Bool, not, ◌&&◌, ◌||◌, List, ◌==◌, slice_index}
 use Rattle.words.specs.Words.{pick}
 use Rattle.book.specs.Text.{blank}
 

@@ -1,5 +1,5 @@
 -- What comes of reading numbers, terms and rules from a place of a text on.
-use Rattle.std.specs.Prelude.{◌≡◌, ℕ, ◌+◌, ◌*◌, ◌^◌, ◌<◌, ◌≤◌, true, List, [], ◌∷◌, ◌++◌, length, get_or, codes, Result, MatchResult, ◌≢◌, slice_index, slice_index_or, slice_set}
+use Rattle.std.specs.Prelude.{◌≡◌, ℕ, ◌+◌, ◌*◌, ◌^◌, ◌<◌, ◌≤◌, true, List, ◌∷◌, ◌++◌, length, get_or, codes, Result, MatchResult, ◌≢◌, slice_index, slice_index_or, slice_set}
 use Rattle.words.specs.declared.Width.{Width}
 use Rattle.words.specs.Words.{bits}
 use Rattle.terms.specs.declared.node.Node.{Node}

@@ -1,5 +1,5 @@
 -- Worked cases of the definitions, in one table.
-use Rattle.std.specs.Prelude.{◌≡◌, ℕ, List, [], ◌∷◌, codes}
+use Rattle.std.specs.Prelude.{◌≡◌, [], ◌∷◌, codes}
 use Rattle.words.specs.declared.Width.TheVariants.{W8}
 use Rattle.words.specs.declared.UnaryOp.TheVariants.{Neg}
 use Rattle.words.specs.declared.BinaryOp.TheVariants.{Add, Sub, Udiv, Urem, Ashr, Slt}

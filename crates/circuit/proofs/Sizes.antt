@@ -1,5 +1,5 @@
 -- How many numbers and variables each circuit takes, for words of so many bits.
-use Rattle.std.proofs.Common.{◌≡◌, ℕ, zero, suc, ◌+◌, ◌*◌, ◌^◌, ◌<◌, ◌≤◌, Bool, true, false, cond, ltb, List, [], ◌∷◌, ◌++◌, length, sym, refl, ap, ◌∙◌, subst, mul_assoc, suc-mul, mul_comm, add-mul, mul-le-mul_left, one-mul, pow-suc, mul-one, mul-suc, mul-add, arith}
+use Rattle.std.proofs.Common.{◌≡◌, ℕ, zero, suc, ◌+◌, ◌*◌, ◌^◌, ◌≤◌, Bool, true, false, cond, ltb, List, [], ◌∷◌, length, sym, refl, ap, ◌∙◌, subst, mul_assoc, suc-mul, add-mul, mul-le-mul_left, pow-suc, mul-one, mul-suc, arith}
 use Rattle.std.proofs.lemmas.List.{length-append}
 use Rattle.circuit.proofs.Moving.{length_moved}
 use Rattle.circuit.proofs.NewWords.{length_wires}

@@ -1,5 +1,5 @@
 -- The words of several terms have the terms' values.
-use Rattle.std.proofs.Common.{◌≡◌, ℕ, ◌+◌, ◌<◌, Bool, true, ◌&&◌, List, [], ◌∷◌, ◌++◌, length, sym, ap, ◌∙◌}
+use Rattle.std.proofs.Common.{◌≡◌, ℕ, ◌+◌, ◌<◌, Bool, true, List, [], ◌∷◌, ◌++◌, length, sym, ap, ◌∙◌}
 use Rattle.std.proofs.lemmas.List.{append_assoc, append-nil}
 use Rattle.std.proofs.lemmas.Bool.{and_parts}
 use Rattle.terms.specs.Terms.{Term, eval}
@@ -18,17 +18,17 @@ Operands t (p ∷ ps) = Operand t (length t) p × Operands t ps
 module _ (w : ℕ) (pos : 0 < w) (env : ℕ → List Bool) (long : (k : ℕ) → length (env k) ≡ w)
     (a c : ℕ → ℕ) (anys : (k : ℕ) → k < 16 → val (env k) ≡ a k) (cons : (k : ℕ) → k < 16 → val (env (16 + k)) ≡ c k) where
   -- the entries at these places have the values of these terms
-  abbrev pub All-have : List Entry → List ℕ → List Term → Type 0
-  All-have t [] [] = Unit {0}
-  All-have t [] (e ∷ es) = ⊥
-  All-have t (p ∷ ps) [] = ⊥
-  All-have t (p ∷ ps) (e ∷ es) = Operand t (length t) p × (val (at w pos env long t p) ≡ eval w a c e) × All-have t ps es
+  abbrev pub AllHave : List Entry → List ℕ → List Term → Type 0
+  AllHave t [] [] = Unit {0}
+  AllHave t [] (e ∷ es) = ⊥
+  AllHave t (p ∷ ps) [] = ⊥
+  AllHave t (p ∷ ps) (e ∷ es) = Operand t (length t) p × (val (at w pos env long t p) ≡ eval w a c e) × AllHave t ps es
 
   pub record Have (t : List Entry) (r : List Entry × List ℕ) (es : List Term) : Type 0 where
     pub rest : List Entry
     pub extends : r.0 ≡ t ++ rest
     pub made : WellMade w r.0
-    pub all : All-have r.0 r.1 es
+    pub all : AllHave r.0 r.1 es
 
   pub all_have : (es : List Term) (t : List Entry) → ok_terms w es ≡ true → WellMade w t → Have t (numbered_all es t) es
   all_have [] t ok made = record { rest = []; extends = sym (append-nil t); made = made; all = tt }
@@ -46,7 +46,7 @@ module _ (w : ℕ) (pos : 0 < w) (env : ℕ → List Bool) (long : (k : ℕ) →
       }
 
   -- their places are operands
-  pub all_operands : (t : List Entry) (ps : List ℕ) (es : List Term) → All-have t ps es → Operands t ps
+  pub all_operands : (t : List Entry) (ps : List ℕ) (es : List Term) → AllHave t ps es → Operands t ps
   all_operands t [] [] h = tt
   all_operands t [] (e ∷ es) h = absurd h
   all_operands t (p ∷ ps) [] h = absurd h

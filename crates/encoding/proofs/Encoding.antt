@@ -1,7 +1,7 @@
 -- A rule's clauses are met exactly by the words for its names for which it fails.
-use Rattle.std.proofs.Common.{◌≡◌, ℕ, zero, suc, ◌+◌, ◌-◌, ◌*◌, ◌/◌, ◌%◌, ◌^◌, ◌<◌, ◌≤◌, Bool, true, false, cond, ◌&&◌, eqb, ltb, leb, List, [], ◌∷◌, map, length, get_or, sym, refl, ap, ◌∙◌, subst, arith, pow_pos}
+use Rattle.std.proofs.Common.{◌≡◌, ℕ, zero, suc, ◌+◌, ◌-◌, ◌*◌, ◌/◌, ◌%◌, ◌^◌, ◌<◌, Bool, true, false, cond, eqb, ltb, leb, List, [], map, length, get_or, sym, refl, ap, ◌∙◌, arith}
 use lib.Arith.{digits_div, digits_mod}
-use Rattle.std.proofs.lemmas.List.{ext_get_or, length-map, get_or_past}
+use Rattle.std.proofs.lemmas.List.{ext_get_or}
 use Rattle.std.proofs.lemmas.Bool.{and_parts, cond-true, cond-false, lt-ltb, le-ltb, ne_eqb}
 use Rattle.words.specs.Words.{bits}
 use Rattle.words.proofs.Laws.{bits_pos}
@@ -14,7 +14,6 @@ use Rattle.circuit.specs.Bits.{val, bits_of}
 use Rattle.circuit.specs.Nets.{Net, wires}
 use Rattle.circuit.specs.Meaning.{truth_of, Whole}
 use Rattle.circuit.proofs.Numbers.{length_bits_of, val_bits_of}
-use Rattle.circuit.proofs.NewWords.{length_wires}
 use Rattle.encoding.specs.declared.entry.Entry.{Entry}
 use Rattle.encoding.specs.Encode.{start, table_n, encode, name_bits, Named}
 use Rattle.encoding.specs.Table.{numbered_all}

@@ -1,5 +1,5 @@
 -- Entries with one key are one entry.
-use Rattle.std.proofs.Common.{◌≡◌, ℕ, Bool, true, cond, ◌&&◌, eqb, List, [], ◌∷◌, get_or, sym, refl, ap, ◌∙◌}
+use Rattle.std.proofs.Common.{◌≡◌, ℕ, true, cond, eqb, [], ◌∷◌, get_or, sym, refl, ◌∙◌}
 use Rattle.std.proofs.lemmas.Bool.{and_parts, eqb-true}
 use Rattle.words.specs.declared.UnaryOp.{UnaryOp}
 use Rattle.words.specs.declared.UnaryOp.TheVariants.{Not, Neg}
@@ -7,8 +7,7 @@ use Rattle.words.specs.declared.BinaryOp.{BinaryOp}
 use Rattle.words.specs.declared.BinaryOp.TheVariants.{Add, Sub, Mul, Udiv, Urem, And, Or, Xor, Shl, Lshr, Ashr, Comp, Ult, Slt}
 use Rattle.encoding.specs.declared.entry.Entry.{Entry}
 use Rattle.encoding.specs.declared.entry.Entry.TheVariants.{Name, Number, Unary, Binary, Ite, Divide, Part}
-use Rattle.encoding.specs.declared.entry.Key.{Key}
-use Rattle.encoding.specs.Table.{unary_code, binary_code, key_of, same_key}
+use Rattle.encoding.specs.Table.{key_of, same_key}
 
 abbrev unary_of : ℕ → UnaryOp
 unary_of c = get_or (Not ∷ Neg ∷ []) c Not

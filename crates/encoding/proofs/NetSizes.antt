@@ -1,13 +1,13 @@
 -- The clauses and variables of a rule are few by its weight.
 use Rattle.std.proofs.Common.{◌≡◌, ℕ, suc, ◌+◌, ◌*◌, ◌<◌, ◌≤◌, true, List, [], ◌∷◌, ◌++◌, length, get_or, sym, refl, ap, ◌∙◌, subst, suc-mul, mul-one, mul-add, arith}
-use Rattle.std.proofs.lemmas.List.{append_assoc, append-nil, length-append, get_or_at}
+use Rattle.std.proofs.lemmas.List.{append_assoc, length-append, get_or_at}
 use Rattle.words.specs.Words.{bits}
 use Rattle.words.proofs.Laws.{bits_le}
 use Rattle.words.specs.declared.Width.{Width}
 use Rattle.words.specs.declared.Width.TheVariants.{W8, W16, W32, W64}
 use Rattle.clauses.specs.declared.literal.Literal.{Literal}
 use Rattle.terms.specs.Limits.{ok_rule}
-use Rattle.terms.specs.Terms.{Term, Rule, terms, load, load_all, weight}
+use Rattle.terms.specs.Terms.{Term, Rule, terms, load_all, weight}
 use Rattle.terms.proofs.Weights.{few_needs}
 use Rattle.circuit.specs.declared.gates.Bitwise.{Bitwise}
 use Rattle.circuit.specs.declared.gates.Bitwise.TheVariants.{Exclusive}
@@ -20,7 +20,7 @@ use Rattle.encoding.specs.declared.entry.Entry.TheVariants.{Name, Number, Unary,
 use Rattle.encoding.specs.Encode.{start, entry_n, table_n, stated_n, encode}
 use Rattle.encoding.specs.Sizes.{entry_load, table_load}
 use Rattle.encoding.specs.Table.{numbered, numbered_all}
-use Rattle.encoding.specs.Values.{Operand, MadeAt, WellMade}
+use Rattle.encoding.specs.Values.{MadeAt, WellMade}
 use Rattle.circuit.proofs.Nets.{defines_none}
 use Rattle.encoding.proofs.AllTerms.{Operands}
 use Rattle.encoding.proofs.Encoding.{table_made, places_operands}

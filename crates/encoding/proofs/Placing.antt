@@ -1,6 +1,6 @@
 -- A placed entry has the word that it says, and the table is as it was before it.
-use Rattle.std.proofs.Common.{◌≡◌, ℕ, zero, suc, ◌+◌, ◌<◌, ◌≤◌, Bool, true, false, cond, ltb, ◌⊎◌, List, [], ◌∷◌, ◌++◌, length, get_or, sym, refl, ap, ◌∙◌, subst, inl, inr, arith}
-use Rattle.std.proofs.lemmas.List.{append_assoc, append-nil, length-append, get_or_append_left, get_or_push}
+use Rattle.std.proofs.Common.{◌≡◌, ℕ, suc, ◌<◌, ◌≤◌, Bool, true, false, cond, ltb, List, [], ◌∷◌, ◌++◌, length, get_or, sym, refl, ap, ◌∙◌, subst, inl, inr, arith}
+use Rattle.std.proofs.lemmas.List.{append-nil, length-append, get_or_append_left, get_or_push}
 use Rattle.std.proofs.lemmas.Bool.{cases_lt, ltb-true, ltb-false}
 use Rattle.encoding.specs.declared.entry.Entry.{Entry}
 use Rattle.encoding.specs.declared.entry.Entry.TheVariants.{Name, Number, Unary, Binary, Ite, Divide, Part}
@@ -8,7 +8,7 @@ use Rattle.encoding.specs.declared.entry.Key.{Key}
 use Rattle.encoding.specs.Table.{key_of, same_key, find, place}
 use Rattle.encoding.specs.Values.{entry_b, is_division, Operand, MadeAt, WellMade}
 use Rattle.encoding.proofs.Keys.{same_key_same_entry}
-use Rattle.encoding.proofs.Tables.{words, words_keep, words_push, word_is_entry, length_table}
+use Rattle.encoding.proofs.Tables.{words, words_push, word_is_entry}
 
 pub find_at_most : (k : Key) (t : List Entry) → find k t ≤ length t
 find_at_most k [] = omega arith

@@ -8,7 +8,7 @@ use Rattle.terms.specs.Terms.{Term, Rule, any, con, lit, unary, binary, ite, ter
 use Rattle.terms.proofs.Roots.{Root, term_root}
 use Rattle.terms.proofs.Weights.{few_needs, few_operations}
 use Rattle.encoding.specs.declared.entry.Entry.{Entry}
-use Rattle.encoding.specs.Table.{numbered, numbered_all, entries_in, entries_all, Numbers}
+use Rattle.encoding.specs.Table.{numbered_all, entries_in, entries_all, Numbers}
 
 -- a term's entries are few
 few_entries : (e : Term) → entries_in e ≤ 4 * ops e + 1

@@ -1,5 +1,5 @@
 -- The clauses that state that a rule fails: met exactly where no needed term is 0 and the sides differ.
-use Rattle.std.proofs.Common.{◌≡◌, ℕ, suc, ◌+◌, ◌*◌, ◌<◌, ◌≤◌, Bool, true, ◌⊎◌, List, [], ◌∷◌, ◌++◌, map, length, get_or, sym, refl, ap, ◌∙◌, subst, ap₂, inl, inr, mul-le-mul_right, add-mul, arith}
+use Rattle.std.proofs.Common.{◌≡◌, ℕ, suc, ◌+◌, ◌*◌, ◌<◌, ◌≤◌, Bool, true, List, [], ◌∷◌, ◌++◌, map, length, get_or, sym, refl, ap, ◌∙◌, subst, ap₂, inl, inr, mul-le-mul_right, add-mul, arith}
 use Rattle.std.proofs.lemmas.List.{length-append}
 use Rattle.std.proofs.lemmas.Bool.{cases_eq}
 use Rattle.clauses.specs.declared.literal.Literal.{Literal}
@@ -16,7 +16,7 @@ use Rattle.circuit.proofs.WordMeaning.{bitwise_makes}
 use Rattle.encoding.specs.declared.entry.Entry.{Entry}
 use Rattle.encoding.specs.Encode.{stated_n, name_bits, Named}
 use Rattle.encoding.specs.Values.{Operand, WellMade}
-use Rattle.encoding.proofs.AllTerms.{All-have}
+use Rattle.encoding.proofs.AllTerms.{AllHave}
 use Rattle.encoding.proofs.Differing.{some_positive, positive_some, bits_differ_values_differ, values_differ_bits_differ}
 use Rattle.encoding.proofs.TableNets.{bits_at, length_names}
 use Rattle.encoding.proofs.Tables.{operand_long}
@@ -58,8 +58,8 @@ named_agree w a c s x m v far g = record {
 
 module _ (w : ℕ) (pos : 0 < w) (t : List Entry) (made : WellMade w t) (ws : List (List Literal)) where
   -- the words of the table are words of the net
-  abbrev pub All-spelled : Net → Type 0
-  All-spelled n = (j : ℕ) → j < length t → Spells n (get_or ws j []) (bits_at w t made j)
+  abbrev pub AllSpelled : Net → Type 0
+  AllSpelled n = (j : ℕ) → j < length t → Spells n (get_or ws j []) (bits_at w t made j)
 
   stated_need : (i : ℕ) (is : List ℕ) (n : Net) → 2 ≤ length is → stated_n ws (i ∷ is) n ≡ stated_n ws is (said (get_or ws i []) n)
   stated_need i [] n h = absurd (omega arith)
@@ -69,7 +69,7 @@ module _ (w : ℕ) (pos : 0 < w) (t : List Entry) (made : WellMade w t) (ws : Li
   module _ (a c : ℕ → ℕ) where
     -- by s the entries at these places have the values of these terms
     abbrev Valued : (s : ℕ → Bool) → Named w a c s → List ℕ → List Term → Type 0
-    Valued s m is es = All-have w pos (name_bits w s) (length_names w s) a c m.anys m.cons t is es
+    Valued s m is es = AllHave w pos (name_bits w s) (length_names w s) a c m.anys m.cons t is es
 
     has_places : (s : ℕ → Bool) (m : Named w a c s) (is : List ℕ) (es : List Term) → Valued s m is es → length is ≡ length es
     has_places s m [] [] h = refl
@@ -81,14 +81,14 @@ module _ (w : ℕ) (pos : 0 < w) (t : List Entry) (made : WellMade w t) (ws : Li
     enough s m is needs from to h = omega (arith, has_places s m is (needs ++ (from ∷ to ∷ [])) h, length-append needs (from ∷ to ∷ []))
 
     -- the value of an entry's word
-    word_value : (n : Net) (s : ℕ → Bool) → All-spelled n → Model s n.out → (i x : ℕ) → Operand t (length t) i → val (bits_at w t made i s) ≡ x → val (map (truth_of s) (get_or ws i [])) ≡ x
+    word_value : (n : Net) (s : ℕ → Bool) → AllSpelled n → Model s n.out → (i x : ℕ) → Operand t (length t) i → val (bits_at w t made i s) ≡ x → val (map (truth_of s) (get_or ws i [])) ≡ x
     word_value n s sp h i x o v = ap val ((sp i o.0).means s h) ∙ v
 
     sides_long : (s : ℕ → Bool) (i j : ℕ) → Operand t (length t) i → Operand t (length t) j → length (bits_at w t made i s) ≡ length (bits_at w t made j s)
     sides_long s i j oi oj = operand_long w (name_bits w s) (length_names w s) t made i oi ∙ sym (operand_long w (name_bits w s) (length_names w s) t made j oj)
 
     -- what meets the clauses makes the rule fail
-    pub stated_fails : (s : ℕ → Bool) (m : Named w a c s) (is : List ℕ) (needs : List Term) (from to : Term) (n : Net) → Valued s m is (needs ++ (from ∷ to ∷ [])) → Whole n → All-spelled n → Model s (stated_n ws is n).out → Model s n.out × Met w a c needs × (eval w a c from ≡ eval w a c to → ⊥)
+    pub stated_fails : (s : ℕ → Bool) (m : Named w a c s) (is : List ℕ) (needs : List Term) (from to : Term) (n : Net) → Valued s m is (needs ++ (from ∷ to ∷ [])) → Whole n → AllSpelled n → Model s (stated_n ws is n).out → Model s n.out × Met w a c needs × (eval w a c from ≡ eval w a c to → ⊥)
     stated_fails s m [] [] from to n v whole sp h = absurd v
     stated_fails s m (i ∷ []) [] from to n v whole sp h = absurd v.2
     stated_fails s m (i ∷ j ∷ k ∷ is) [] from to n v whole sp h = absurd v.2.2
@@ -108,7 +108,7 @@ module _ (w : ℕ) (pos : 0 < w) (t : List Entry) (made : WellMade w t) (ws : Li
         (k.0, ((λ z. omega (arith, some_positive s c k.1, word_value n s sp k.0 i _ v.0 v.1, z)), r.1), r.2)
 
     -- where the rule fails, the clauses are met
-    pub fails_stated : (s : ℕ → Bool) (m : Named w a c s) (is : List ℕ) (needs : List Term) (from to : Term) (n : Net) → ((x : ℕ → Bool) (k : Named w a c x) → Valued x k is (needs ++ (from ∷ to ∷ []))) → Whole n → 1 + 32 * w ≤ n.next → All-spelled n → Model s n.out → Met w a c needs → (eval w a c from ≡ eval w a c to → ⊥) → (x : ℕ → Bool) × Model x (stated_n ws is n).out
+    pub fails_stated : (s : ℕ → Bool) (m : Named w a c s) (is : List ℕ) (needs : List Term) (from to : Term) (n : Net) → ((x : ℕ → Bool) (k : Named w a c x) → Valued x k is (needs ++ (from ∷ to ∷ []))) → Whole n → 1 + 32 * w ≤ n.next → AllSpelled n → Model s n.out → Met w a c needs → (eval w a c from ≡ eval w a c to → ⊥) → (x : ℕ → Bool) × Model x (stated_n ws is n).out
     fails_stated s m [] [] from to n v whole far sp h met f = absurd (v s m)
     fails_stated s m (i ∷ []) [] from to n v whole far sp h met f = absurd (v s m).2
     fails_stated s m (i ∷ j ∷ k ∷ is) [] from to n v whole far sp h met f = absurd (v s m).2.2

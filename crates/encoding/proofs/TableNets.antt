@@ -1,13 +1,12 @@
 -- The words of a table on literals spell the words of the table on bits, and their net defines its variables.
-use Rattle.std.proofs.Common.{◌≡◌, ℕ, zero, suc, ◌+◌, ◌*◌, ◌<◌, ◌≤◌, Bool, true, false, ◌⊎◌, List, [], ◌∷◌, ◌++◌, map, length, get_or, take, drop, sym, refl, ap, ◌∙◌, subst, ap₂, inl, inr, mul-le-mul_right, add-mul, arith}
+use Rattle.std.proofs.Common.{◌≡◌, ℕ, zero, suc, ◌+◌, ◌*◌, ◌<◌, ◌≤◌, Bool, true, false, List, [], ◌∷◌, ◌++◌, map, length, get_or, take, drop, sym, refl, ap, ◌∙◌, subst, inl, inr, mul-le-mul_right, add-mul, arith}
 use Rattle.std.proofs.lemmas.List.{append_assoc, append-nil, length-append, length-map, get_or_append_left, get_or_push, get_or_at}
 use Rattle.std.proofs.lemmas.Bool.{cases_lt}
 use Rattle.clauses.specs.declared.literal.Literal.{Literal}
-use Rattle.clauses.specs.Flat.{Model}
 use Rattle.circuit.specs.Bits.{bits_of}
-use Rattle.circuit.specs.Nets.{Net, high, low, wires}
+use Rattle.circuit.specs.Nets.{Net, wires}
 use Rattle.circuit.specs.Meaning.{truth_of, WordBelow, Whole, Defines, Spells, MakesWord}
-use Rattle.circuit.proofs.Nets.{defines_none, defines_then, spells_itself, spells_later, spells_none, spells_bit, spells_as, carries_high, carries_low, makes_word_none, makes_word_as}
+use Rattle.circuit.proofs.Nets.{defines_none, defines_then, spells_itself, spells_later, spells_none, spells_bit, spells_as, carries_high, carries_low, makes_word_none}
 use Rattle.circuit.proofs.NewWords.{length_wires, wires_below}
 use Rattle.circuit.proofs.WordMeaning.{ite_makes}
 use Rattle.circuit.proofs.OperationMeaning.{length_spelled, unary_makes, binary_makes}

@@ -1,7 +1,7 @@
 -- The word of an entry is what the entry says of the words of the table; words keep when the table grows.
-use Rattle.std.proofs.Common.{◌≡◌, ℕ, zero, suc, ◌+◌, ◌*◌, ◌<◌, ◌≤◌, Bool, true, false, ◌⊎◌, List, [], ◌∷◌, ◌++◌, length, get_or, take, drop, sym, refl, ap, ◌∙◌, subst, ap₂, inl, inr, mul-le-mul_right, arith}
+use Rattle.std.proofs.Common.{◌≡◌, ℕ, zero, suc, ◌+◌, ◌*◌, ◌<◌, ◌≤◌, Bool, true, false, List, [], ◌∷◌, ◌++◌, length, get_or, take, drop, sym, refl, ap, ◌∙◌, subst, ap₂, inl, inr, mul-le-mul_right, arith}
 use native.Mathlib.Nat.{min-eq_left}
-use Rattle.std.proofs.lemmas.List.{append_assoc, append-nil, length-append, length-take, length-drop, take-append-drop, drop_more, get_or_append_left, get_or_push}
+use Rattle.std.proofs.lemmas.List.{append_assoc, length-append, length-take, length-drop, take-append-drop, drop_more, get_or_append_left, get_or_push}
 use Rattle.std.proofs.lemmas.Bool.{cases_lt, true≢false}
 use Rattle.circuit.specs.Bits.{mul_b, unary_b, binary_b, ite_b}
 use Rattle.circuit.proofs.Numbers.{length_bits_of}
@@ -56,16 +56,16 @@ module _ (w : ℕ) (env : ℕ → List Bool) where
       here ∙ entry_same t i e (words front) (words t) (made i lt) old
 
   -- a word is w bits long, and a division three times that
-  abbrev pub bitsIn : Entry → ℕ
-  bitsIn (Name k) = w
-  bitsIn (Number x) = w
-  bitsIn (Unary o i) = w
-  bitsIn (Binary o i j) = w
-  bitsIn (Ite h i j) = w
-  bitsIn (Divide i j) = w + (w + w)
-  bitsIn (Part k p) = w
+  abbrev pub bits_in : Entry → ℕ
+  bits_in (Name k) = w
+  bits_in (Number x) = w
+  bits_in (Unary o i) = w
+  bits_in (Binary o i j) = w
+  bits_in (Ite h i j) = w
+  bits_in (Divide i j) = w + (w + w)
+  bits_in (Part k p) = w
 
-  operand_bits : (e : Entry) → is_division e ≡ false → bitsIn e ≡ w
+  operand_bits : (e : Entry) → is_division e ≡ false → bits_in e ≡ w
   operand_bits (Name k) f = refl
   operand_bits (Number x) f = refl
   operand_bits (Unary o i) f = refl
@@ -74,7 +74,7 @@ module _ (w : ℕ) (env : ℕ → List Bool) where
   operand_bits (Divide i j) f = absurd (true≢false f)
   operand_bits (Part k p) f = refl
 
-  division_bits : (e : Entry) → is_division e ≡ true → bitsIn e ≡ w + (w + w)
+  division_bits : (e : Entry) → is_division e ≡ true → bits_in e ≡ w + (w + w)
   division_bits (Name k) f = absurd (true≢false (sym f))
   division_bits (Number x) f = absurd (true≢false (sym f))
   division_bits (Unary o i) f = absurd (true≢false (sym f))
@@ -89,7 +89,7 @@ module _ (w : ℕ) (env : ℕ → List Bool) where
         let few : p * w ≤ 2 * w = mul-le-mul_right w (omega arith) in
         length-take w (drop (p * w) v) ∙ min-eq_left (omega (arith, length-drop (p * w) v))
 
-    entry_bits : (t : List Entry) (n : ℕ) (e : Entry) (vs : List (List Bool)) → MadeAt w t n e → ((i : ℕ) → i < n → length (get_or vs i []) ≡ bitsIn (get_or t i (Name 0))) → length (entry_b w env vs e) ≡ bitsIn e
+    entry_bits : (t : List Entry) (n : ℕ) (e : Entry) (vs : List (List Bool)) → MadeAt w t n e → ((i : ℕ) → i < n → length (get_or vs i []) ≡ bits_in (get_or t i (Name 0))) → length (entry_b w env vs e) ≡ bits_in e
     entry_bits t n (Name k) vs m h = long k
     entry_bits t n (Number x) vs m h = length_bits_of w x
     entry_bits t n (Unary o i) vs m h = length_unary o (get_or vs i []) ∙ (h i m.0 ∙ operand_bits _ m.1)
@@ -111,7 +111,7 @@ module _ (w : ℕ) (env : ℕ → List Bool) where
     entry_bits t n (Part k p) vs m h =
         part_bits p (get_or vs k []) m.1 (h k m.0 ∙ division_bits _ m.2)
 
-    pub word_bits : (t : List Entry) → WellMade w t → (n : ℕ) → n ≤ length t → (i : ℕ) → i < n → length (get_or (words t) i []) ≡ bitsIn (get_or t i (Name 0))
+    pub word_bits : (t : List Entry) → WellMade w t → (n : ℕ) → n ≤ length t → (i : ℕ) → i < n → length (get_or (words t) i []) ≡ bits_in (get_or t i (Name 0))
     word_bits t made zero le i h = absurd (omega arith)
     word_bits t made (suc n) le i h = elim (cases_lt i n) [
       | inl l ↦ word_bits t made n (omega arith) i l

@@ -1,15 +1,15 @@
 -- The word of a term's entry is the term's value.
-use Rattle.std.proofs.Common.{◌≡◌, ℕ, zero, suc, ◌+◌, ◌*◌, ◌^◌, ◌<◌, ◌≤◌, min, max, Bool, true, false, cond, ◌&&◌, eqb, ltb, ◌⊎◌, List, [], ◌∷◌, ◌++◌, length, get_or, take, drop, sym, refl, ap, ◌∙◌, subst, ap₂, inl, inr, arith}
+use Rattle.std.proofs.Common.{◌≡◌, ℕ, ◌+◌, ◌*◌, ◌^◌, ◌<◌, min, max, Bool, true, false, cond, ◌&&◌, eqb, ◌⊎◌, List, [], ◌++◌, length, get_or, take, drop, sym, refl, ap, ◌∙◌, subst, ap₂, inl, inr, arith}
 use native.Mathlib.Nat.{min-eq_left, min-eq_right, max-eq_left, max-eq_right}
 use Rattle.std.proofs.lemmas.List.{append_assoc, take-append-le, take_all, drop_at, length-append}
-use Rattle.std.proofs.lemmas.Bool.{cases_lt, cases_Bool, and_parts, ltb-true, eqb-true}
+use Rattle.std.proofs.lemmas.Bool.{cases_lt, and_parts, ltb-true, eqb-true}
 use Rattle.words.specs.Words.{pick, do1, do2}
 use Rattle.words.specs.declared.BinaryOp.{BinaryOp}
 use Rattle.words.specs.declared.BinaryOp.TheVariants.{Add, Sub, Mul, Udiv, Urem, And, Or, Xor, Shl, Lshr, Ashr, Comp, Ult, Slt}
 use Rattle.words.proofs.Laws.{do2_word}
 use Rattle.terms.specs.Terms.{Term, any, con, lit, unary, binary, ite, eval}
 use Rattle.terms.specs.Limits.{ok_term}
-use Rattle.circuit.specs.Bits.{val, mul_b, unary_b, binary_b, ite_b, divides}
+use Rattle.circuit.specs.Bits.{val, mul_b, binary_b, divides}
 use Rattle.circuit.proofs.Numbers.{val_lt, length_bits_of, val_bits_of}
 use Rattle.circuit.proofs.Products.{length_mul}
 use Rattle.circuit.proofs.OperationValues.{unary_right, binary_right, ite_right}
@@ -18,7 +18,7 @@ use Rattle.encoding.specs.declared.entry.Entry.TheVariants.{Name, Number, Unary,
 use Rattle.encoding.specs.Table.{place, sorted, by_divider, by_quotient, product, divided, operated, numbered}
 use Rattle.encoding.specs.Values.{quotient_b, remainder_b, divide_b, entry_b, is_division, Operand, MadeAt, WellMade}
 use Rattle.encoding.proofs.Commuting.{Commutes, add_commutes, mul_commutes, and_commutes, or_commutes, xor_commutes, comp_commutes}
-use Rattle.encoding.proofs.Placing.{Placed, placed, operand_later}
+use Rattle.encoding.proofs.Placing.{placed, operand_later}
 use Rattle.encoding.proofs.Tables.{words, words_keep, word_is_entry, operand_long}
 
 module _ (w : ℕ) (pos : 0 < w) (env : ℕ → List Bool) (long : (k : ℕ) → length (env k) ≡ w) where
@@ -115,10 +115,10 @@ module _ (w : ℕ) (pos : 0 < w) (env : ℕ → List Bool) (long : (k : ℕ) →
     has_remainder = has_divided 1 _ _ (omega arith) (second_part (quotient_b w (at t i) (at t j)) _ _ quotient_long remainder_long product_long) val_remainder
 
   -- a product is made by itself, or it is the one of a division
-  abbrev By-division : List Entry → ℕ → ℕ → Entry → Type 0
-  By-division t i j e = (k : ℕ) × (x : ℕ) × (e ≡ Part k 2) × (get_or t j (Name 0) ≡ Part k 0) × (get_or t k (Name 0) ≡ Divide x i)
+  abbrev ByDivision : List Entry → ℕ → ℕ → Entry → Type 0
+  ByDivision t i j e = (k : ℕ) × (x : ℕ) × (e ≡ Part k 2) × (get_or t j (Name 0) ≡ Part k 0) × (get_or t k (Name 0) ≡ Divide x i)
 
-  by_divider_lem : (t : List Entry) (i j k : ℕ) (e : Entry) → get_or t k (Name 0) ≡ e → get_or t j (Name 0) ≡ Part k 0 → (by_divider e k i j ≡ Binary Mul i j) ⊎ By-division t i j (by_divider e k i j)
+  by_divider_lem : (t : List Entry) (i j k : ℕ) (e : Entry) → get_or t k (Name 0) ≡ e → get_or t j (Name 0) ≡ Part k 0 → (by_divider e k i j ≡ Binary Mul i j) ⊎ ByDivision t i j (by_divider e k i j)
   by_divider_lem t i j k (Name x) q h = inl refl
   by_divider_lem t i j k (Number x) q h = inl refl
   by_divider_lem t i j k (Unary o x) q h = inl refl
@@ -127,11 +127,11 @@ module _ (w : ℕ) (pos : 0 < w) (env : ℕ → List Bool) (long : (k : ℕ) →
   by_divider_lem t i j k (Part x p) q h = inl refl
   by_divider_lem t i j k (Divide x y) q h = go (eqb y i) refl
     where
-      go : (b : Bool) → eqb y i ≡ b → (cond b (Part k 2) (Binary Mul i j) ≡ Binary Mul i j) ⊎ By-division t i j (cond b (Part k 2) (Binary Mul i j))
+      go : (b : Bool) → eqb y i ≡ b → (cond b (Part k 2) (Binary Mul i j) ≡ Binary Mul i j) ⊎ ByDivision t i j (cond b (Part k 2) (Binary Mul i j))
       go true s = inr (k, x, refl, h, q ∙ ap (Divide x) (eqb-true y i s))
       go false s = inl refl
 
-  by_quotient_lem : (t : List Entry) (i j : ℕ) (e : Entry) → get_or t j (Name 0) ≡ e → (by_quotient t e i j ≡ Binary Mul i j) ⊎ By-division t i j (by_quotient t e i j)
+  by_quotient_lem : (t : List Entry) (i j : ℕ) (e : Entry) → get_or t j (Name 0) ≡ e → (by_quotient t e i j ≡ Binary Mul i j) ⊎ ByDivision t i j (by_quotient t e i j)
   by_quotient_lem t i j (Name x) q = inl refl
   by_quotient_lem t i j (Number x) q = inl refl
   by_quotient_lem t i j (Unary o x) q = inl refl
@@ -140,7 +140,7 @@ module _ (w : ℕ) (pos : 0 < w) (env : ℕ → List Bool) (long : (k : ℕ) →
   by_quotient_lem t i j (Divide x y) q = inl refl
   by_quotient_lem t i j (Part k p) q = go (eqb p 0) refl
     where
-      go : (b : Bool) → eqb p 0 ≡ b → (cond b (by_divider (get_or t k (Name 0)) k i j) (Binary Mul i j) ≡ Binary Mul i j) ⊎ By-division t i j (cond b (by_divider (get_or t k (Name 0)) k i j) (Binary Mul i j))
+      go : (b : Bool) → eqb p 0 ≡ b → (cond b (by_divider (get_or t k (Name 0)) k i j) (Binary Mul i j) ≡ Binary Mul i j) ⊎ ByDivision t i j (cond b (by_divider (get_or t k (Name 0)) k i j) (Binary Mul i j))
       go true s = by_divider_lem t i j k (get_or t k (Name 0)) refl (q ∙ ap (Part k) (eqb-true p 0 s))
       go false s = inl refl
 

@@ -16,11 +16,11 @@ use Rattle.encoding.specs.Table.{numbered_all}
 use Rattle.encoding.specs.Values.{WellMade}
 use Rattle.encoding.proofs.AllTerms.{Operands}
 use Rattle.encoding.proofs.Encoding.{table, net, table_made, places_operands, spelled, whole}
-use Rattle.encoding.proofs.Stating.{All-spelled, said_whole, said_spells}
+use Rattle.encoding.proofs.Stating.{AllSpelled, said_whole, said_spells}
 use Rattle.encoding.proofs.TableNets.{bits_at}
 
 module _ (w : ℕ) (pos : 0 < w) (t : List Entry) (made : WellMade w t) (ws : List (List Literal)) where
-  stated_whole : (is : List ℕ) (n : Net) → Operands t is → Whole n → All-spelled w pos t made ws n → Whole (stated_n ws is n)
+  stated_whole : (is : List ℕ) (n : Net) → Operands t is → Whole n → AllSpelled w pos t made ws n → Whole (stated_n ws is n)
   stated_whole [] n o h sp = h
   stated_whole (i ∷ []) n o h sp = h
   stated_whole (i ∷ j ∷ []) n o h sp =

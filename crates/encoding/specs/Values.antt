@@ -1,5 +1,5 @@
 -- The words of a table's entries as bits, and when a table is well made.
-use Rattle.std.specs.Prelude.{◌≡◌, ℕ, suc, ◌+◌, ◌*◌, ◌^◌, ◌<◌, Bool, true, false, List, [], ◌∷◌, ◌++◌, length, take, drop, slice_index_or}
+use Rattle.std.specs.Prelude.{◌≡◌, ℕ, ◌*◌, ◌^◌, ◌<◌, Bool, true, false, List, [], ◌∷◌, ◌++◌, length, take, drop, slice_index_or}
 use Rattle.words.specs.Words.{do2}
 use Rattle.words.specs.declared.BinaryOp.TheVariants.{Udiv, Urem}
 use Rattle.circuit.specs.Bits.{val, bits_of, mul_b, ite_b, unary_b, binary_b, divides}

@@ -1,7 +1,7 @@
 -- Values that make every clause true are a model, and so are the bytes that are written from them.
-use Rattle.std.proofs.Common.{◌≡◌, ℕ, ◌+◌, ◌-◌, ◌/◌, ◌%◌, ◌^◌, ◌<◌, ◌≤◌, Bool, true, false, cond, not, eqb, ◌⊎◌, List, length, get_or, MatchBool, sym, refl, ap, ◌∙◌, subst, inl, inr, arith}
+use Rattle.std.proofs.Common.{◌≡◌, ℕ, ◌-◌, ◌/◌, ◌%◌, ◌<◌, ◌≤◌, Bool, true, false, cond, not, eqb, List, length, get_or, MatchBool, ap, ◌∙◌, subst, inl, inr}
 use Rattle.std.proofs.lemmas.Bool.{cases_eq, eq-eqb, ne_eqb}
-use Rattle.clauses.specs.Flat.{lit_truth, Model, Well, Within}
+use Rattle.clauses.specs.Flat.{lit_truth, Model, Well}
 use Rattle.clauses.specs.Models.{byte_of, byte_sign, value_sign, Written}
 use Rattle.clauses.proofs.Forms.{well_literal}
 use Rattle.clauses.proofs.Truth.{even_truth, odd_truth}

@@ -3,11 +3,10 @@ use Rattle.std.proofs.Common.{◌≡◌, ℕ, ◌≤◌, List, length, take, sym
 use Rattle.kernel.specs.Arena.{Arena}
 use Rattle.kernel.specs.Trail.{State, rank}
 use Rattle.kernel.proofs.Budgets.{left_stay}
-use Rattle.solver.specs.declared.turn.Progress.{Progress}
 use Rattle.solver.specs.declared.turn.Turn.{Turn}
 use Rattle.solver.specs.declared.turn.Turn.TheVariants.{Never, Met, Again}
 use Rattle.learning.specs.Steps.{Whole}
-use Rattle.solver.specs.Steps.{Turns, OnWith}
+use Rattle.solver.specs.Steps.{Turns}
 
 -- whole states, with other terms for what they are of
 pub whole_as : (ws vs ts ks seen seen' words words' : List ℕ) (n low : ℕ) → seen' ≡ seen → words' ≡ words → Whole ws vs ts ks seen words n low → Whole ws vs ts ks seen' words' n low

@@ -1,5 +1,5 @@
 -- The limits that a rule of a book keeps.
-use Rattle.std.specs.Prelude.{ℕ, ◌+◌, ◌^◌, Bool, true, ◌&&◌, List, [], ◌∷◌, length, nat_le, nat_lt}
+use Rattle.std.specs.Prelude.{ℕ, ◌^◌, Bool, true, ◌&&◌, List, [], ◌∷◌, length, nat_le, nat_lt}
 use Rattle.words.specs.Words.{bits}
 use Rattle.terms.specs.Terms.{Term, any, con, lit, unary, binary, ite, Rule, terms, ops_all}
 

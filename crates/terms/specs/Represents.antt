@@ -1,5 +1,5 @@
 -- When a rule's nodes are those of a rule.
-use Rattle.std.specs.Prelude.{◌≡◌, ℕ, length}
+use Rattle.std.specs.Prelude.{◌≡◌, length}
 use Rattle.terms.specs.declared.rule.RuleNodes.{RuleNodes}
 use Rattle.terms.specs.Terms.{Rule, terms}
 use Rattle.terms.specs.Nodes.{Rooted}

@@ -1,6 +1,5 @@
 use Rattle.std.proofs.Common.{◌≡◌, ℕ, ◌+◌, ◌-◌, ◌%◌, ◌<◌, refl, arith}
 use Rattle.book.specs.Text.{decimal}
-use Rattle.cases.specs.Worked.{Worked}
 use Rattle.cases.proofs.worked_cases_stand.Goals as goal
 
 sum_less_lem : (x y : ℕ) → x < 256 → y < 256 → ((x + y) % 256 + 256 - y) % 256 ≡ x

@@ -1,4 +1,4 @@
-use Rattle.std.proofs.Common.{◌<◌, length, arith}
+use Rattle.std.proofs.Common.{arith}
 use Rattle.book.proofs.RuleReads.{one_rule_more, rule_there, book_few}
 use Rattle.judge_book.proofs.report.Goals as goal
 

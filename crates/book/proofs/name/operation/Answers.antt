@@ -1,9 +1,7 @@
-use Rattle.std.proofs.Common.{◌≡◌, ℕ, ◌<◌, ◌≤◌, arith}
+use Rattle.std.proofs.Common.{arith}
 use Rattle.words.specs.declared.UnaryOp.TheVariants.{Not, Neg}
 use Rattle.words.specs.declared.BinaryOp.TheVariants.{Add, Sub, Mul, Udiv, Urem, And, Or, Xor, Shl, Lshr, Ashr, Comp, Ult, Slt}
-use Rattle.book.specs.declared.token.Operation.{Operation}
 use Rattle.book.specs.declared.token.Operation.TheVariants.{Unary, Binary, Ite}
-use Rattle.book.specs.Tokens.{operation_name}
 use Rattle.book.proofs.name.operation.Goals as goal
 
 -- each operation stands in the table

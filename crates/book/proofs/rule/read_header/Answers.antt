@@ -1,6 +1,5 @@
-use Rattle.std.proofs.Common.{◌≡◌, ℕ, subst}
+use Rattle.std.proofs.Common.{subst}
 use Rattle.std.proofs.lemmas.Result.{err_from_is_err_and}
-use Rattle.book.specs.declared.token.Token.TheVariants.{Rule}
 use Rattle.book.specs.Scan.{At}
 use Rattle.book.proofs.RuleReads.{rule_expected, width_no_number, width_expected, needed_no_number, needed_expected, header_read}
 use Rattle.book.proofs.rule.read_header.Goals as goal

@@ -2,9 +2,9 @@ use Rattle.std.proofs.Common.{◌≡◌, ℕ, ◌-◌, ◌<◌, ◌≤◌, true,
 use Rattle.std.proofs.lemmas.Bool.{cases_eq, both_ways}
 use Rattle.book.specs.declared.token.Token.{Token}
 use Rattle.book.specs.declared.token.Token.TheVariants as token
-use Rattle.book.specs.Text.{blank, words}
+use Rattle.book.specs.Text.{blank}
 use Rattle.book.specs.Tokens.{Is}
-use Rattle.book.specs.Scan.{rest, Found, At}
+use Rattle.book.specs.Scan.{rest, At}
 use Rattle.book.proofs.Splits.{words_at, words_end}
 use Rattle.book.proofs.scan.next_word.Goals as goal
 

@@ -1,9 +1,8 @@
-use Rattle.std.proofs.Common.{◌≡◌, ℕ, ◌+◌, ◌-◌, ◌<◌, ◌≤◌, length, get_or, set, sym, refl, ap, ◌∙◌, subst, arith}
+use Rattle.std.proofs.Common.{◌≡◌, ◌+◌, ◌-◌, get_or, set, sym, ap, ◌∙◌, subst, arith}
 use Rattle.words.specs.Words.{bits}
 use Rattle.terms.specs.declared.node.Node.TheVariants.{Any}
 use Rattle.terms.specs.Nodes.{sound}
 use Rattle.std.proofs.lemmas.Result.{err_from_is_err_and, MatchResult-weaker}
-use Rattle.book.specs.declared.token.Token.TheVariants.{Leaf, Operation}
 use Rattle.book.specs.Tokens.{operation_node}
 use Rattle.book.specs.Scan.{At}
 use Rattle.book.specs.Reading.{Pushed, IsTermRead, NoTerm, IsTermsRead, NoTerms}

@@ -1,4 +1,4 @@
-use Rattle.std.proofs.Common.{◌≡◌, ◌<◌, get_or, set, sym, refl, ap, ◌∙◌, subst, arith, rules}
+use Rattle.std.proofs.Common.{get_or, set, sym, refl, ap, ◌∙◌}
 use Rattle.terms.specs.declared.node.Node.TheVariants.{Any}
 use Rattle.words.specs.Words.{bits}
 use Rattle.terms.specs.Nodes.{sound}

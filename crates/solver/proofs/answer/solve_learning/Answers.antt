@@ -1,4 +1,4 @@
-use Rattle.std.proofs.Common.{◌≡◌, true, false, MatchBool, sym, refl, ap, subst}
+use Rattle.std.proofs.Common.{MatchBool, sym, refl, subst}
 use Rattle.clauses.specs.Flat.{Hopeless}
 use Rattle.kernel.specs.Scan.{Solution}
 use Rattle.clauses.proofs.Numbered.{renamed_hopeless}

@@ -1,4 +1,4 @@
-use Rattle.std.proofs.Common.{◌≡◌, ◌+◌, ◌<◌, length, sym, subst, arith}
+use Rattle.std.proofs.Common.{◌+◌, ◌<◌, length, sym, subst, arith}
 use Rattle.kernel.specs.Budget.{left}
 use Rattle.kernel.proofs.Budgets.{left_over, left_on}
 use Rattle.solver.proofs.Turning.{whole_on}

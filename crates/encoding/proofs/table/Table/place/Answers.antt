@@ -1,4 +1,4 @@
-use Rattle.std.proofs.Common.{◌≡◌, ◌+◌, take, set, sym, refl, ap, ◌∙◌, arith}
+use Rattle.std.proofs.Common.{◌≡◌, ◌+◌, take, set, sym, ap, ◌∙◌, arith}
 use Rattle.encoding.specs.Table.{key_of, find}
 use Rattle.encoding.proofs.Finding.{place_new, place_old, found_inside}
 use Rattle.encoding.proofs.table.Table.place.Goals as goal
