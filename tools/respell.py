@@ -29,6 +29,15 @@ LEMMAS = {
 # Facts that would get the name of a Rust struct beside them.
 FACTS = re.compile("[A-Z][a-z]*-read")
 NO_NAMES = {"use", "module", "mod", "pub", "where", "unfolding", "open", "record", "data", "abbrev", "in", "--"}
+# The file with a lemma that has had its definition's spelling since before: sum_less, which sumLess becomes.
+LONE = "crates/cases/proofs/worked_cases_stand/Answers.antt"
+
+
+def read(path):
+    """A file's text, that lemma by its other name."""
+    with open(path, encoding="utf-8") as f:
+        text = f.read()
+    return re.sub(r"\bsum_less\b", "sum_less_lem", text) if path.endswith(LONE) else text
 
 
 def spelled(name):
@@ -46,13 +55,15 @@ def spelled(name):
 
 
 def to_turn(name):
-    return re.fullmatch(r"[A-Za-z][A-Za-z0-9_'-]*", name) and ("-" in name or (name[0].islower() and re.search("[A-Z]", name)))
+    """Whether a name has another spelling today."""
+    if not re.fullmatch(r"[A-Za-z][A-Za-z0-9_'-]*", name):
+        return False
+    return "-" in name or (name[0].islower() and re.search("[A-Z]", name) is not None)
 
 
 def declared(path):
     """The names that a file declares at its margin, in a module's parameters or as fields; goals' answers stay."""
-    with open(path, encoding="utf-8") as f:
-        lines = f.read().split("\n")
+    lines = read(path).split("\n")
     names, fields, kind = set(), set(), None
     if path.endswith(("Answers.antt", "Invariants.antt")):
         goals = {m for l in lines for m in re.findall(r"\bgoal\.(" + WORD + r")", l)}
@@ -74,6 +85,8 @@ def declared(path):
 
 
 def turn_code(text, names, fields):
+    """The text with each of these names as it is spelled today; behind a dot only a field is one."""
+
     def one(m):
         w = m.group(0)
         known = fields if m.start() and text[m.start() - 1] == "." else names | fields
@@ -86,8 +99,7 @@ def turn(path, names, fields):
     """A file's text, its comments left but for names in camel case or between back quotes."""
     mark = "--" if path.endswith(".antt") else "//"
     out = []
-    with open(path, encoding="utf-8") as f:
-        text = f.read()
+    text = read(path)
     names = names - imported(text)
     plain = {n for n in names | fields if re.search("[a-z][A-Z]", n)}
     for line in text.split("\n"):
@@ -111,9 +123,8 @@ def imported(text):
 
 
 def hidden(path, turned):
-    """Says where a name that is turned would be one that the file imports from a library."""
-    with open(path, encoding="utf-8") as f:
-        text = f.read()
+    """Stops where a name that is turned would be one that the file imports from a library."""
+    text = read(path)
     imports = imported(text)
     for w in sorted(set(re.findall(r"[A-Za-z][A-Za-z0-9_'-]*", text)) & turned - imports):
         if spelled(w) in imports:
@@ -121,14 +132,9 @@ def hidden(path, turned):
 
 
 def main(root):
-    # The lemma of that name got its word's spelling before.
-    lone = os.path.join(root, "crates/cases/proofs/worked_cases_stand/Answers.antt")
-    files = sorted(p for p in glob.glob(os.path.join(root, "crates/*/**/*.antt"), recursive=True) if "/out/" not in p)
-    sources = sorted(p for p in glob.glob(os.path.join(root, "crates/*/src/**/*.rt"), recursive=True))
-    with open(lone, encoding="utf-8") as f:
-        text = re.sub(r"\bsum_less\b", "sum_less_lem", f.read())
-    with open(lone, "w", encoding="utf-8") as f:
-        f.write(text)
+    files = sorted(glob.glob(os.path.join(root, "crates/*/**/*.antt"), recursive=True))
+    files = [p for p in files if "/out/" not in p]
+    sources = sorted(glob.glob(os.path.join(root, "crates/*/src/**/*.rt"), recursive=True))
     names, fields = set(), set()
     for p in files:
         n, f = declared(p)

@@ -1,4 +1,5 @@
--- Words as lists of bits, the lowest first, and the circuits on them: each operation as gates do it.
+-- Words as lists of bits, the lowest first, and the circuits on them: each operation as gates do it. The name
+-- of a circuit on bits ends in _b; that of the same circuit on literals, which makes a net larger, in _n.
 use Rattle.std.specs.Prelude.{ℕ, zero, suc, ◌+◌, ◌-◌, ◌*◌, ◌/◌, Bool, true, false, cond, not, ◌&&◌, ◌||◌, List, [], ◌∷◌, length, nat_lt, slice_index_or}
 use Rattle.words.specs.Words.{odd, xor}
 use Rattle.words.specs.declared.UnaryOp.{UnaryOp}
