@@ -1,4 +1,5 @@
 -- Clauses: the definitions that the contracts cite.
+pub mod Literals
 pub mod Clauses
 pub mod Flat
 pub mod Numbering

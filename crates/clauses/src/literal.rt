@@ -1,12 +1,13 @@
 // Literals and variables, as types of their own so that they can't be mixed.
-ghost use Rattle.std.specs.Prelude.{◌≡◌, ◌/◌, ◌≤◌, ◌≢◌};
+ghost use Rattle.std.specs.Prelude.{◌≡◌, ◌/◌, ◌≢◌};
+ghost use Rattle.clauses.specs.Literals.{negated as opposite};
 
 // A variable by its number from 1 on. There is no variable 0.
-#[derive(Clone, Copy)]
+#[derive(Clone, Copy, PartialEq, Eq, Debug)]
 pub struct Variable(pub u32);
 
 // A literal by its code: twice its variable's number, and one more if it is negated.
-#[derive(Clone, Copy)]
+#[derive(Clone, Copy, PartialEq, Eq, Debug)]
 pub struct Literal(pub u32);
 
 impl Literal {
@@ -16,9 +17,9 @@ impl Literal {
         Variable(self.0 / 2)
     }
 
-    // The other literal of the same variable.
+    // The other literal of the same variable; of any code, so that no caller has to know that it is one.
     pub fn negated(self) -> Literal
-        requires { 2 ≤ self.0 }
+        ensures value { result ≡ opposite self }
         ensures variable { result.0 / 2 ≡ self.0 / 2 }
         ensures other { result.0 ≢ self.0 }
     {
