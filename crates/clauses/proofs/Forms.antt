@@ -1,42 +1,40 @@
--- Whether words are clauses, word by word.
-use Rattle.std.proofs.Common.{◌≡◌, ℕ, zero, suc, ◌+◌, ◌-◌, ◌/◌, ◌<◌, ◌≤◌, Bool, true, false, not, eqb, List, [], ◌∷◌, length, get_or, drop, MatchBool, sym, refl, subst, arith}
-use Rattle.std.proofs.lemmas.List.{drop_more, drop_all}
-use Rattle.std.proofs.lemmas.Bool.{ne_eqb, true≢false}
+-- Whether words are clauses.
+use Rattle.std.proofs.Common.{◌≡◌, ◌≢◌, ℕ, zero, suc, ◌+◌, ◌-◌, ◌/◌, ◌<◌, ◌≤◌, Bool, true, false, eqb, ◌⊎◌, List, [], ◌∷◌, length, get_or, MatchBool, sym, ap, ◌∙◌, refl, subst, inl, inr, arith}
+use Rattle.std.proofs.lemmas.Bool.{cases_eq, eq-eqb, ne_eqb, true≢false}
 use Rattle.clauses.specs.Flat.{Well, Within}
 
--- the words are clauses exactly if those from i on are; b says that word i is in a clause
-pub record Form (ws : List ℕ) (i : ℕ) (b : Bool) : Type 0 where
-  pub on : Well false ws → Well b (drop i ws)
-  pub back : Well b (drop i ws) → Well false ws
+-- words are clauses exactly if none is 1 and the last, where there is one, is 0
+pub well_ended : (b : Bool) (x : ℕ) (ws : List ℕ) → ((k : ℕ) → k < length (x ∷ ws) → get_or (x ∷ ws) k 0 ≢ 1) → get_or (x ∷ ws) (length ws) 0 ≡ 0 → Well b (x ∷ ws)
+well_ended b zero [] f e = refl
+well_ended b (suc x) [] f e = absurd (omega arith)
+well_ended b zero (y ∷ ws) f e = well_ended false y ws (λ k l. f (suc k) (omega arith)) e
+well_ended b (suc zero) (y ∷ ws) f e = absurd (f 0 (omega arith) refl)
+well_ended b (suc (suc x)) (y ∷ ws) f e = well_ended true y ws (λ k l. f (suc k) (omega arith)) e
 
-well_on : (b : Bool) (x : ℕ) (xs : List ℕ) → (x ≡ 1 → ⊥) → Well b (x ∷ xs) → Well (not (eqb x 0)) xs
-well_on b zero xs f h = h
-well_on b (suc zero) xs f h = absurd h
-well_on b (suc (suc x)) xs f h = subst (λ e. Well (not e) xs) (sym (ne_eqb (suc (suc x)) 0 (λ q. omega arith))) h
+pub well_apart : (b : Bool) (ws : List ℕ) → Well b ws → (k : ℕ) → k < length ws → get_or ws k 0 ≢ 1
+well_apart b [] h k l = absurd (omega arith)
+well_apart b (zero ∷ ws) h zero l = λ e. omega arith
+well_apart b (zero ∷ ws) h (suc k) l = well_apart false ws h k (omega arith)
+well_apart b (suc zero ∷ ws) h k l = absurd h
+well_apart b (suc (suc x) ∷ ws) h zero l = λ e. omega arith
+well_apart b (suc (suc x) ∷ ws) h (suc k) l = well_apart true ws h k (omega arith)
 
-well_back : (b : Bool) (x : ℕ) (xs : List ℕ) → (x ≡ 1 → ⊥) → Well (not (eqb x 0)) xs → Well b (x ∷ xs)
-well_back b zero xs f h = h
-well_back b (suc zero) xs f h = absurd (f refl)
-well_back b (suc (suc x)) xs f h = subst (λ e. Well (not e) xs) (ne_eqb (suc (suc x)) 0 (λ q. omega arith)) h
+pub well_last : (b : Bool) (x : ℕ) (ws : List ℕ) → Well b (x ∷ ws) → get_or (x ∷ ws) (length ws) 0 ≡ 0
+well_last b zero [] h = refl
+well_last b (suc zero) [] h = absurd h
+well_last b (suc (suc x)) [] h = absurd (true≢false h)
+well_last b zero (y ∷ ws) h = well_last false y ws h
+well_last b (suc zero) (y ∷ ws) h = absurd h
+well_last b (suc (suc x)) (y ∷ ws) h = well_last true y ws h
 
-well_one : (b : Bool) (x : ℕ) (xs : List ℕ) → x ≡ 1 → Well b (x ∷ xs) → ⊥
-well_one b zero xs f h = absurd (omega arith)
-well_one b (suc zero) xs f h = h
-well_one b (suc (suc x)) xs f h = absurd (omega arith)
-
-module _ (ws : List ℕ) (i : ℕ) (b : Bool) (l : i < length ws) (was : Form ws i b) where
-  pub form_one : get_or ws i 0 ≡ 1 → Well false ws → ⊥
-  form_one e h = well_one b (get_or ws i 0) (drop (i + 1) ws) e (subst (Well b) (drop_more ws i 0 l) (was.on h))
-
-  pub form_more : (get_or ws i 0 ≡ 1 → ⊥) → Form ws (i + 1) (not (eqb (get_or ws i 0) 0))
-  form_more f = record {
-    on = λ h. well_on b (get_or ws i 0) (drop (i + 1) ws) f (subst (Well b) (drop_more ws i 0 l) (was.on h));
-    back = λ h. was.back (subst (Well b) (sym (drop_more ws i 0 l)) (well_back b (get_or ws i 0) (drop (i + 1) ws) f h));
-  }
-
-pub form_all : (ws : List ℕ) (i : ℕ) (b : Bool) → length ws ≤ i → Form ws i b → MatchBool (not b) (Well false ws) (Well false ws → ⊥)
-form_all ws i false l was = was.back (subst (Well false) (sym (drop_all i ws l)) refl)
-form_all ws i true l was = λ h. true≢false (subst (Well true) (drop_all i ws l) (was.on h))
+-- what the last word says, where none is 1
+pub well_by_last : (ws : List ℕ) (b : Bool) → ((k : ℕ) → k < length ws → get_or ws k 0 ≢ 1) → (0 < length ws → b ≡ eqb (get_or ws (length ws - 1) 0) 0) → (length ws ≡ 0 → b ≡ true) → MatchBool b (Well false ws) (Well false ws → ⊥)
+well_by_last [] b f some none = subst (λ c. MatchBool c (Well false []) (Well false [] → ⊥)) (sym (none refl)) refl
+well_by_last (x ∷ ws) b f some none = subst (λ c. MatchBool c (Well false (x ∷ ws)) (Well false (x ∷ ws) → ⊥)) (sym (some (omega arith) ∙ ap (λ i. eqb (get_or (x ∷ ws) i 0) 0) (omega arith))) (by_last (cases_eq (get_or (x ∷ ws) (length ws) 0) 0))
+  where
+    by_last : (get_or (x ∷ ws) (length ws) 0 ≡ 0) ⊎ (get_or (x ∷ ws) (length ws) 0 ≢ 0) → MatchBool (eqb (get_or (x ∷ ws) (length ws) 0) 0) (Well false (x ∷ ws)) (Well false (x ∷ ws) → ⊥)
+    by_last (inl e) = subst (λ c. MatchBool c (Well false (x ∷ ws)) (Well false (x ∷ ws) → ⊥)) (sym (eq-eqb (get_or (x ∷ ws) (length ws) 0) 0 e)) (well_ended false x ws f e)
+    by_last (inr ne) = subst (λ c. MatchBool c (Well false (x ∷ ws)) (Well false (x ∷ ws) → ⊥)) (sym (ne_eqb (get_or (x ∷ ws) (length ws) 0) 0 ne)) (λ h. ne (well_last false x ws h))
 
 -- a word that is not 0 is a literal
 pub well_literal : (b : Bool) (ws : List ℕ) → Well b ws → (k : ℕ) → k < length ws → (get_or ws k 0 ≡ 0 → ⊥) → 2 ≤ get_or ws k 0

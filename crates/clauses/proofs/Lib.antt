@@ -6,4 +6,5 @@ pub mod Alikes
 pub mod Numbers
 pub mod Numbered
 pub mod Values
+pub mod Writing
 pub mod Promise

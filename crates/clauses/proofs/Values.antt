@@ -1,27 +1,22 @@
 -- A model that is written from values meets what the values meet.
 use Rattle.std.proofs.Common.{◌≡◌, ℕ, ◌+◌, ◌-◌, ◌/◌, ◌%◌, ◌<◌, ◌≤◌, Bool, true, false, cond, eqb, ◌⊎◌, List, length, get_or, sym, refl, ap, ◌∙◌, inl, inr, arith}
 use Rattle.std.proofs.lemmas.Bool.{cases_eq}
+use Rattle.std.specs.Int.{from_bool}
 use Rattle.clauses.specs.Clauses.{signed}
 use Rattle.clauses.specs.Flat.{lit_truth, Model, Well}
 use Rattle.clauses.specs.Numbering.{Renamed}
-use Rattle.clauses.specs.Models.{byte_sign, value_sign, byte_of, Written}
+use Rattle.clauses.specs.Models.{byte_sign, value_sign, gives_word, Written}
 use Rattle.clauses.proofs.Alikes.{model_alike}
 use Rattle.clauses.proofs.Forms.{well_literal}
 use Rattle.clauses.proofs.Numbered.{renamed_model}
 
-pub byte_cases : (x : ℕ) → (byte_of x ≡ 1) ⊎ (byte_of x ≡ 0)
-byte_cases x = cases (eqb (x % 2) 0)
-  where
-    cases : (b : Bool) → (cond {A = ℕ} b 1 0 ≡ 1) ⊎ (cond {A = ℕ} b 1 0 ≡ 0)
-    cases true = inl refl
-    cases false = inr refl
+pub byte_cases : (b : Bool) → (from_bool b ≡ 1) ⊎ (from_bool b ≡ 0)
+byte_cases true = inl refl
+byte_cases false = inr refl
 
-byte_sign_lem : (x : ℕ) → eqb (byte_of x) 1 ≡ eqb (x % 2) 0
-byte_sign_lem x = same (eqb (x % 2) 0)
-  where
-    same : (b : Bool) → eqb (cond {A = ℕ} b 1 0) 1 ≡ b
-    same true = refl
-    same false = refl
+byte_sign_lem : (b : Bool) → eqb (from_bool b) 1 ≡ b
+byte_sign_lem true = refl
+byte_sign_lem false = refl
 
 -- the literal that values has for its variable is true
 pub value_true : (values : List ℕ) (x : ℕ) → 2 ≤ x → get_or values (x / 2) 0 ≡ x → lit_truth (value_sign values) x ≡ true
@@ -38,7 +33,7 @@ module _ (ws rs map names : List ℕ) (count : ℕ) (made : Renamed ws rs map na
   pub map_below : (n : ℕ) → n ≡ count + 1 → (v : ℕ) → get_or map v 0 < n
   map_below n e v = omega (arith, made.inverse.number v)
 
-  pub written_model : (values m m' : List ℕ) → Well false ws → Written ws map values m m' (length ws) → Model (value_sign values) rs → Model (byte_sign m') ws
+  pub written_model : (values m m' : List ℕ) → Well false ws → Written gives_word ws map values m m' (length ws) → Model (value_sign values) rs → Model (byte_sign m') ws
   written_model values m m' well written h =
       model_alike (λ v. value_sign values (get_or map v 0 - 1)) (byte_sign m') ws ws refl
       (λ k l. (λ e. e, λ ne. (ne, λ t. sym (ap (signed (eqb (get_or ws k 0 % 2) 0)) (same k l ne)) ∙ t)))
@@ -49,5 +44,5 @@ module _ (ws rs map names : List ℕ) (count : ℕ) (made : Renamed ws rs map na
           let v = get_or ws k 0 / 2 - 1 in
           let some = made.renames.occurs k l ne in
           let place : get_or map v 0 - 1 + 1 ≡ get_or map v 0 = omega (arith, cases_eq (get_or map v 0) 0) in
-          let byte = written.named k l (well_literal false ws well k l ne) in
-          ap (λ i. eqb (get_or values i 0 % 2) 0) place ∙ sym (byte_sign_lem (get_or values (get_or map v 0) 0)) ∙ ap (λ b. eqb b 1) (sym byte)
+          let byte = written.named k 0 l (well_literal false ws well k l ne) in
+          ap (λ i. eqb (get_or values i 0 % 2) 0) place ∙ sym (byte_sign_lem (eqb (get_or values (get_or map v 0) 0 % 2) 0)) ∙ ap (λ b. eqb b 1) (sym byte)

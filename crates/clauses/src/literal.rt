@@ -1,5 +1,5 @@
 // Literals and variables, as types of their own so that they can't be mixed.
-ghost use Rattle.std.specs.Prelude.{◌≡◌, ◌/◌, ◌≢◌};
+ghost use Rattle.std.specs.Prelude.{◌≡◌, ◌-◌, ◌/◌, ◌≤◌, ◌≢◌};
 ghost use Rattle.clauses.specs.Literals.{negated as opposite};
 
 // A variable by its number from 1 on. There is no variable 0.
@@ -37,5 +37,13 @@ impl Variable {
         ensures { result ≡ self.0 }
     {
         self.0 as usize
+    }
+
+    // The place of the variable in a model, which begins with variable 1.
+    pub fn place(self) -> usize
+        requires { 1 ≤ self.0 }
+        ensures { result ≡ self.0 - 1 }
+    {
+        self.0 as usize - 1
     }
 }

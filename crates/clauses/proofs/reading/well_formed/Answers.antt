@@ -1,11 +1,13 @@
-use Rattle.clauses.proofs.Forms.{form_one, form_more, form_all}
+use Rattle.std.proofs.Common.{not, false, MatchBool, sym, subst, rules, arith}
+use Rattle.clauses.specs.Flat.{Well}
+use Rattle.clauses.proofs.Forms.{well_by_last, well_apart}
 use Rattle.clauses.proofs.reading.well_formed.Goals as goal
 
-pub returns-then-x-eq1 : goal.returns-then-x-eq1
-returns-then-x-eq1 c = form_one _ _ _ c.loop-w-test.true c.loop-w.invariant c.if-x-eq1.true
+pub returns-then-not-contains : goal.returns-then-not-contains
+returns-then-not-contains c = well_by_last _ _ (λ k l. search rules) c.is_closed.ensures.some c.is_closed.ensures.none
 
-pub loop-w-preserved : goal.loop-w-preserved
-loop-w-preserved c = form_more _ _ _ c.loop-w-test.true c.loop-w.invariant c.if-x-eq1.false
-
-pub returns : goal.returns
-returns c = form_all _ _ _ c.loop-w-test.false c.loop-w.invariant
+pub returns-else-not-contains : goal.returns-else-not-contains
+returns-else-not-contains c =
+    let one = c.if-not-contains.ensures in
+    subst (λ b. MatchBool (not b) (Well false c.args.clauses.now) (Well false c.args.clauses.now → ⊥)) (sym c.if-not-contains.false)
+        (λ h. well_apart false _ h one.cases.0 one.cases.1 (search rules))

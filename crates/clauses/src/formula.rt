@@ -1,0 +1,31 @@
+// Clauses that were read: what is asked of the numbers before they are solved, as a fact of a type.
+ghost use Rattle.std.specs.Prelude.{◌≡◌, ◌+◌, false, MatchResult};
+ghost use Rattle.clauses.specs.Flat.{Well, Within};
+ghost use Rattle.clauses.specs.Formula.{Refused, Well-prop};
+
+use crate::reading::{variables_below, well_formed};
+use crate::solved::Refusal;
+
+// Clauses whose variables, from 0 on, are below `variables`.
+#[derive(Clone, Copy)]
+pub struct Formula<'a> {
+    pub numbers: &'a [u32],
+    pub variables: usize,
+    ghost well: { Well false numbers.now } by { Well-prop false numbers.now },
+    ghost within: { Within numbers.now (variables + 1) },
+}
+
+impl<'a> Formula<'a> {
+    // Reads numbers as clauses over so many variables.
+    pub fn read(numbers: &'a [u32], variables: usize) -> Result<Formula<'a>, Refusal>
+        ensures { MatchResult result (λ f. (f.numbers.now ≡ numbers.now) × (f.variables ≡ variables)) (λ r. Refused numbers.now variables r) }
+    {
+        if !well_formed(numbers) {
+            return Err(Refusal::NoClauses);
+        }
+        if !variables_below(numbers, variables) {
+            return Err(Refusal::Small);
+        }
+        Ok(Formula { numbers, variables })
+    }
+}
