@@ -6,6 +6,14 @@
 use crate::memory::{get, put};
 use clauses::Literal;
 
+// The place that a link's word names: 0 names none.
+fn link(word: u32) -> Option<usize> {
+    match word {
+        0 => None,
+        place => Some(place as usize),
+    }
+}
+
 #[derive(Drop)]
 pub struct Occurrences<'a> {
     heads: &'a mut [u32],
@@ -27,33 +35,33 @@ impl Occurrences<'_> {
         self.heads.fill(0);
     }
 
-    // Adds the literals of the clause at c, of which there are n.
-    pub fn attach(&mut self, arena: &[u32], c: usize, n: usize) {
-        for k in 0..n {
+    // Adds the literals of the clause at c.
+    pub fn attach(&mut self, c: usize, literals: &[u32]) {
+        for (k, x) in literals.iter().enumerate() {
             if c < 0x7fff_ffff && k < 0x7fff_ffff {
                 let p = c + 1 + k;
-                let x = get(arena, p) as usize;
-                let old = get(self.heads, x);
+                let head = *x as usize;
+                let old = get(self.heads, head);
                 put(self.next, p, old);
                 put(self.owner, p, c as u32);
-                put(self.heads, x, p as u32);
+                put(self.heads, head, p as u32);
             }
         }
     }
 
-    // The first place where a literal stands, or 0.
-    pub fn first(&self, x: Literal) -> u32 {
-        get(self.heads, x.0 as usize)
+    // The first place where a literal stands.
+    pub fn first(&self, x: Literal) -> Option<usize> {
+        link(get(self.heads, x.0 as usize))
     }
 
-    // The place after p in its list, or 0.
-    pub fn after(&self, p: u32) -> u32 {
-        get(self.next, p as usize)
+    // The place after p in its list.
+    pub fn after(&self, p: usize) -> Option<usize> {
+        link(get(self.next, p))
     }
 
     // The place of the header of the clause that has place p.
-    pub fn clause(&self, p: u32) -> usize {
-        get(self.owner, p as usize) as usize
+    pub fn clause(&self, p: usize) -> usize {
+        get(self.owner, p) as usize
     }
 
     // The score of the clause at c: how many levels it had when it was learned.

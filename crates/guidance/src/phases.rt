@@ -40,6 +40,14 @@ impl Phases<'_> {
         }
     }
 
+    // Whether a variable's literal stands on the trail before a place.
+    pub fn stands_before(&self, v: Variable, place: usize) -> bool {
+        match self.places.get(v.index()) {
+            Some(at) => (*at as usize) < place,
+            None => false,
+        }
+    }
+
     // The places of all variables on the trail.
     pub fn places(&self) -> &[u32] {
         self.places

@@ -4,7 +4,8 @@ use Rattle.std.proofs.lemmas.Bool.{cases_eq, true≢false}
 use Rattle.clauses.specs.Flat.{lit_truth}
 use Rattle.kernel.specs.Trail.{False, Own}
 use Rattle.kernel.specs.Arena.{Clause}
-use Rattle.kernel.specs.Resolve.{Marked, Due, Blamed}
+use Rattle.kernel.specs.Resolve.{Due, Blamed, Counts}
+use Rattle.kernel.proofs.Marking.{Marked}
 use Rattle.kernel.proofs.Truth.{opposite_false}
 use Rattle.kernel.proofs.Zeros.{zeros_fill, zeros_free, zeros_most}
 
@@ -69,16 +70,16 @@ module _ (ws values arena before seen : List ℕ) (i k x marks : ℕ) (own : Own
   pub marks_left : 1 ≤ marks
   marks_left = omega (arith, zeros_free seen (x / 2) (omega (arith, due.fits, was.marked.long)) (was.keeps (x / 2) due.marked), was.marked.counted, zeros_most (set seen (x / 2) 0), length-set seen (x / 2) 0)
 
-  pub absorbed_core : Blamed ws values (set seen (x / 2) 0) (marks - 1)
+  pub absorbed_counted : Counts (set seen (x / 2) 0) (marks - 1)
+  absorbed_counted =
+      let left = marks_left in
+      omega (arith, zeros_free seen (x / 2) (omega (arith, due.fits, was.marked.long)) (was.keeps (x / 2) due.marked), length-set seen (x / 2) 0, was.marked.counted)
+
+  pub absorbed_core : Blamed ws values (set seen (x / 2) 0)
   absorbed_core =
       let h : ℕ = x / 2 in
-      let l : h < length seen = omega (arith, due.fits, was.marked.long) in
-      let left = marks_left in
       record {
-        marked = record {
-          long = length-set seen h 0 ∙ was.marked.long;
-          counted = omega (arith, zeros_free seen h l (was.keeps h due.marked), length-set seen h 0, was.marked.counted);
-        };
+        long = length-set seen h 0 ∙ was.marked.long;
         core = λ s all m.
             let has = cl.follows s m in
             let y : ℕ = get_or arena (i + has.at) 0 in

@@ -1,8 +1,9 @@
 -- Clauses of the arena, and what clearing a header and widening the gap keep.
-use Rattle.std.proofs.Common.{◌≡◌, ℕ, ◌+◌, ◌-◌, ◌<◌, ◌≤◌, List, length, get_or, set, sym, ap, ◌∙◌, subst, inl, inr, ⊎_elim, arith, length-set, get_or-set_other, get_or-set_same}
+use Rattle.std.proofs.Common.{◌≡◌, ℕ, ◌+◌, ◌-◌, ◌<◌, ◌≤◌, List, length, get_or, take, drop, set, zero-add, sym, ap, ◌∙◌, subst, inl, inr, ⊎_elim, arith, length-drop, length-set, get_or-set_other, get_or-set_same}
 use Rattle.std.proofs.lemmas.Bool.{cases_eq, cases_lt}
+use Rattle.std.proofs.lemmas.List.{length-take-le, get_or-take, get_or-drop}
 use Rattle.clauses.specs.Flat.{lit_truth}
-use Rattle.kernel.specs.Arena.{head, size, Word, Clause, Headed, Arena, Header}
+use Rattle.kernel.specs.Arena.{head, size, Word, Clause, Headed, IsArena, Header, Follows}
 
 -- a clause whose words are found at another place
 pub clause_moved : (ws arena arena' : List ℕ) (m i i' n : ℕ) → ((k : ℕ) → k < n → get_or arena' (i' + k) 0 ≡ get_or arena (i + k) 0) → Clause ws arena m i n → Clause ws arena' m i' n
@@ -15,14 +16,14 @@ clause_moved ws arena arena' m i i' n same cl = record {
 pub in_clause : (ws arena : List ℕ) (m low high i : ℕ) → Headed ws arena m low high i → (j : ℕ) → i < j → j ≤ i + size arena i → Word m (get_or arena j 0)
 in_clause ws arena m low high i h j a b = subst (λ p. Word m (get_or arena p 0)) (omega arith) (h.clause.words (j - (i + 1)) (omega arith))
 
-pub arena_as : (ws arena arena' : List ℕ) (m low low' high : ℕ) → arena' ≡ arena → low' ≡ low → Arena ws arena m low high → Arena ws arena' m low' high
-arena_as ws arena arena' m low low' high ea el h = subst (λ a. Arena ws a m low' high) (sym ea) (subst (λ l. Arena ws arena m l high) (sym el) h)
+pub arena_as : (ws arena arena' : List ℕ) (m low low' high : ℕ) → arena' ≡ arena → low' ≡ low → IsArena ws arena m low high → IsArena ws arena' m low' high
+arena_as ws arena arena' m low low' high ea el h = subst (λ a. IsArena ws a m low' high) (sym ea) (subst (λ l. IsArena ws arena m l high) (sym el) h)
 
 -- no header at all
-pub empty_arena : (ws arena : List ℕ) (m : ℕ) → ((k : ℕ) → k < length arena → get_or arena k 0 ≡ 0) → Arena ws arena m 0 (length arena)
+pub empty_arena : (ws arena : List ℕ) (m : ℕ) → ((k : ℕ) → k < length arena → get_or arena k 0 ≡ 0) → IsArena ws arena m 0 (length arena)
 empty_arena ws arena m z = record { order = omega arith; fits = omega arith; headed = λ i l h. absurd (omega (arith, z i l)) }
 
-module _ (ws arena : List ℕ) (m low high : ℕ) (ar : Arena ws arena m low high) where
+module _ (ws arena : List ℕ) (m low high : ℕ) (ar : IsArena ws arena m low high) where
   -- there is no header in the gap
   pub gap_clear : (p : ℕ) → low ≤ p → p < high → get_or arena p 0 < head
   gap_clear p a b =
@@ -30,7 +31,7 @@ module _ (ws arena : List ℕ) (m low high : ℕ) (ar : Arena ws arena m low hig
       ⊎_elim (λ l. l) (λ h. absurd (omega (arith, (ar.headed p (omega arith) h).apart))) (cases_lt (get_or arena p 0) head)
 
   -- the gap reaches on where no header stands
-  pub gap_widens : (high' : ℕ) → high ≤ high' → high' ≤ length arena → ((p : ℕ) → high ≤ p → p < high' → get_or arena p 0 < head) → Arena ws arena m low high'
+  pub gap_widens : (high' : ℕ) → high ≤ high' → high' ≤ length arena → ((p : ℕ) → high ≤ p → p < high' → get_or arena p 0 < head) → IsArena ws arena m low high'
   gap_widens high' a b clear =
       let order = ar.order in
       record {
@@ -46,11 +47,11 @@ module _ (ws arena : List ℕ) (m low high : ℕ) (ar : Arena ws arena m low hig
       }
 
   -- over one word
-  pub gap_skips : high < length arena → get_or arena high 0 < head → Arena ws arena m low (high + 1)
+  pub gap_skips : high < length arena → get_or arena high 0 < head → IsArena ws arena m low (high + 1)
   gap_skips l h = gap_widens (high + 1) (omega arith) (omega arith) (λ p a b. subst (λ q. get_or arena q 0 < head) (omega arith) h)
 
   -- a reduction begins with an empty gap at the bottom
-  pub gap_opens : Arena ws arena m 0 0
+  pub gap_opens : IsArena ws arena m 0 0
   gap_opens = record {
     order = omega arith;
     fits = omega arith;
@@ -59,7 +60,7 @@ module _ (ws arena : List ℕ) (m low high : ℕ) (ar : Arena ws arena m low hig
 
   -- a header is cleared
   module _ (c : ℕ) (hd : Header arena c) where
-    pub forgotten : Arena ws (set arena c 0) m low high
+    pub forgotten : IsArena ws (set arena c 0) m low high
     forgotten =
         let long = length-set arena c 0 in
         let fits = ar.fits in
@@ -81,7 +82,7 @@ module _ (ws arena : List ℕ) (m low high : ℕ) (ar : Arena ws arena m low hig
         }
 
 -- the first clause after the gap is dropped
-pub dropped : (ws arena : List ℕ) (m low c : ℕ) → Arena ws arena m low c → Header arena c → Arena ws (set arena c 0) m low (c + 1 + size arena c)
+pub dropped : (ws arena : List ℕ) (m low c : ℕ) → IsArena ws arena m low c → Header arena c → IsArena ws (set arena c 0) m low (c + 1 + size arena c)
 dropped ws arena m low c ar hd =
     let home = ar.headed c hd.below hd.high in
     let within = home.within in
@@ -91,3 +92,17 @@ dropped ws arena m low c ar hd =
     (λ e. omega (arith, ap (λ (j : ℕ). get_or (set arena c 0) j 0) e, get_or-set_same arena c 0 0 hd.below))
     (λ ne. omega (arith, get_or-set_other arena c p 0 0 ne, (in_clause ws arena m low c c home p (omega arith) (omega arith)).low))
     (cases_eq p c))
+
+pub dropped_as : (ws arena : List ℕ) (m low c n : ℕ) → IsArena ws arena m low c → Header arena c → n ≡ size arena c → IsArena ws (set arena c 0) m low (c + 1 + n)
+dropped_as ws arena m low c n ar hd e = subst (λ k. IsArena ws (set arena c 0) m low (c + 1 + k)) (sym e) (dropped ws arena m low c ar hd)
+
+-- the literals of a clause, as a list
+module _ (ws arena : List ℕ) (m low high c n : ℕ) (ar : IsArena ws arena m low high) (hd : Header arena c) (e : n ≡ size arena c) where
+  pub part_length : length (take n (drop (c + 1) arena)) ≡ n
+  part_length = let within = (ar.headed c hd.below hd.high).within in length-take-le n (drop (c + 1) arena) (omega (arith, length-drop (c + 1) arena))
+
+  pub part_follows : Follows ws m (take n (drop (c + 1) arena))
+  part_follows =
+      subst (Clause ws (take n (drop (c + 1) arena)) m 0) (sym part_length) (clause_moved ws arena (take n (drop (c + 1) arena)) m (c + 1) 0 n
+      (λ k l. ap (λ (i : ℕ). get_or (take n (drop (c + 1) arena)) i 0) (zero-add k) ∙ get_or-take n (drop (c + 1) arena) k 0 l ∙ get_or-drop (c + 1) arena k 0)
+      (subst (Clause ws arena m (c + 1)) (sym e) (ar.headed c hd.below hd.high).clause))

@@ -1,26 +1,22 @@
 -- What is left to do falls with each step on, and with each start over that is paid for.
-use Rattle.std.proofs.Common.{◌≡◌, ℕ, ◌+◌, ◌-◌, ◌*◌, ◌^◌, ◌<◌, ◌≤◌, List, length, take, sym, ap, ◌∙◌, subst, add-mul, one-mul, arith}
-use Rattle.kernel.specs.Trail.{Further, Went, rank}
+use Rattle.std.proofs.Common.{◌≡◌, ℕ, ◌+◌, ◌-◌, ◌*◌, ◌^◌, ◌<◌, ◌≤◌, length, sym, ap, ◌∙◌, add-mul, one-mul, arith}
+use Rattle.kernel.specs.Trail.{Trailed, Further, Went, rank, rank_of}
 use Rattle.kernel.specs.Budget.{left}
 use Rattle.kernel.proofs.Ranks.{rank_below}
 
--- one start over: the trail may be any
-pub left_over : (m : ℕ) (ks ks' : List ℕ) (n n' b : ℕ) → 0 < b → left m ks' n' (b - 1) < left m ks n b
-left_over m ks ks' n n' b h =
+-- one start over: the trail may be any of as many variables
+pub left_over : (t t' : Trailed) (b : ℕ) → length t'.values ≡ length t.values → 0 < b → left t' (b - 1) < left t b
+left_over t t' b e h =
+    let m : ℕ = length t.values in
     let one : (b - 1 + 1) * 3 ^ m ≡ (b - 1) * 3 ^ m + 3 ^ m = add-mul (b - 1) 1 (3 ^ m) ∙ ap (λ z. (b - 1) * 3 ^ m + z) (one-mul (3 ^ m)) in
     let up : b - 1 + 1 ≡ b = omega arith in
-    omega (arith, sym (ap (λ z. z * 3 ^ m) up) ∙ one, rank_below m (take n ks))
+    rw e (omega (arith, sym (ap (λ z. z * 3 ^ m) up) ∙ one, rank_below m t.kinds))
 
 -- a step on, and any number of them
-pub left_on : (m : ℕ) (ks ks' : List ℕ) (n n' b : ℕ) → rank m (take n ks) < rank m (take n' ks') → left m ks' n' b < left m ks n b
-left_on m ks ks' n n' b h = omega (arith, rank_below m (take n' ks'))
+pub left_further : (t t' : Trailed) (b : ℕ) → Further t t' → left t' b < left t b
+left_further t t' b f =
+    rw f.long (omega (arith, f.more, ap (λ (m : ℕ). rank m t'.kinds) f.long, rank_below (length t.values) t'.kinds))
 
-pub left_stay : (m : ℕ) (ks ks' : List ℕ) (n n' b : ℕ) → rank m (take n ks) ≤ rank m (take n' ks') → left m ks' n' b ≤ left m ks n b
-left_stay m ks ks' n n' b h = omega (arith, rank_below m (take n' ks'))
-
--- the same of what the kernel's steps promise
-pub further_left : (ws us ts ks ks' : List ℕ) (n n' m b : ℕ) → length us ≡ m → Further ws us ts ks ks' n n' → left m ks' n' b < left m ks n b
-further_left ws us ts ks ks' n n' m b e f = left_on m ks ks' n n' b (subst (λ z. rank z (take n ks) < rank z (take n' ks')) e f.more)
-
-pub went_left : (ws us ts ks ks' : List ℕ) (n n' m b : ℕ) → length us ≡ m → Went ws us ts ks ks' n n' → left m ks' n' b ≤ left m ks n b
-went_left ws us ts ks ks' n n' m b e f = left_stay m ks ks' n n' b (subst (λ z. rank z (take n ks) ≤ rank z (take n' ks')) e f.more)
+pub left_went : (t t' : Trailed) (b : ℕ) → Went t t' → left t' b ≤ left t b
+left_went t t' b w =
+    rw w.long (omega (arith, w.more, ap (λ (m : ℕ). rank m t'.kinds) w.long, rank_below (length t.values) t'.kinds))

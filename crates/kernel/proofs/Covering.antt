@@ -4,7 +4,8 @@ use Rattle.std.proofs.lemmas.Bool.{cases_eq, cases_Bool}
 use Rattle.clauses.specs.Flat.{lit_truth, Model}
 use Rattle.kernel.specs.Trail.{False, Own}
 use Rattle.kernel.specs.Arena.{Word, Has}
-use Rattle.kernel.specs.Resolve.{Blames, Marked, Covered}
+use Rattle.kernel.specs.Resolve.{Blames, Covered}
+use Rattle.kernel.proofs.Marking.{Marked}
 use Rattle.kernel.proofs.Truth.{opposite_true}
 use Rattle.kernel.proofs.Zeros.{zeros_free, zeros_most, zeros_full}
 

@@ -9,6 +9,7 @@ pub mod Arenas
 pub mod Storing
 pub mod Loading
 pub mod Swapping
+pub mod Marking
 pub mod Absorbing
 pub mod Covering
 pub mod Blaming

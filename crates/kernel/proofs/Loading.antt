@@ -3,7 +3,7 @@ use Rattle.std.proofs.Common.{◌≡◌, ℕ, zero, suc, ◌+◌, ◌-◌, ◌<�
 use Rattle.std.proofs.lemmas.List.{drop_more, length-take-le, get_or-take, get_or-drop}
 use Rattle.std.proofs.lemmas.Bool.{or_cases, cases_eq, true≢false}
 use Rattle.clauses.specs.Flat.{lit_truth, Meets, Model, Well, Within}
-use Rattle.kernel.specs.Arena.{Has, Clause}
+use Rattle.kernel.specs.Arena.{Has, Clause, Stored}
 use Rattle.kernel.proofs.Scans.{lit_on, end_on}
 use Rattle.kernel.proofs.Arenas.{clause_moved}
 
@@ -72,4 +72,42 @@ module _ (ws : List ℕ) (start i : ℕ) (l : i < length ws) (was : Reading ws s
             let half = win (start + k) at in
             record { lit = two; half = half; low = omega (arith, two, half) };
         follows = reading_has z;
+      }))
+
+-- the clauses before start are in the arena
+pub record Loaded (ws : List ℕ) (m n : ℕ) (a : Stored) (start i : ℕ) : Type 0 where
+  pub reading : Reading ws start i
+  pub clauses : a.clauses ≡ ws
+  pub variables : a.variables ≡ m
+  pub long : length a.words ≡ n
+  pub low : a.low ≤ start
+  pub high : a.high ≡ length a.words
+
+pub loaded_none : (ws : List ℕ) (m n : ℕ) (a : Stored) → a.clauses ≡ ws → a.variables ≡ m → length a.words ≡ n → a.low ≡ 0 → a.high ≡ n → Loaded ws m n a 0 0
+loaded_none ws m n a c v l o h = record { reading = reading_start ws; clauses = c; variables = v; long = l; low = omega arith; high = omega arith }
+
+module _ (ws : List ℕ) (m n : ℕ) (a : Stored) (start i : ℕ) (l : i < length ws) (was : Loaded ws m n a start i) where
+  -- a literal is passed over
+  pub loaded_more : (a' : Stored) (start' : ℕ) → a' ≡ a → start' ≡ start → (get_or ws i 0 ≡ 0 → ⊥) → Loaded ws m n a' start' (i + 1)
+  loaded_more a' start' ea es f = subst (λ b. Loaded ws m n b start' (i + 1)) (sym ea) (subst (λ s. Loaded ws m n a s (i + 1)) (sym es) (record {
+    reading = reading_more ws start i l was.reading f;
+    clauses = was.clauses;
+    variables = was.variables;
+    long = was.long;
+    low = was.low;
+    high = was.high;
+  }))
+
+  -- a clause is stored
+  pub loaded_next : (b a' : Stored) (start' k : ℕ) → a' ≡ b → start' ≡ i + 1 → get_or ws i 0 ≡ 0 → k ≡ i - start → b.clauses ≡ a.clauses → b.variables ≡ a.variables → length b.words ≡ length a.words → b.low ≡ a.low + 1 + k → b.high ≡ a.high → Loaded ws m n a' start' (i + 1)
+  loaded_next b a' start' k ea es z ek c v lw lo hi =
+      let within = was.reading.within in
+      let low = was.low in
+      subst (λ x. Loaded ws m n x start' (i + 1)) (sym ea) (subst (λ s. Loaded ws m n b s (i + 1)) (sym es) (record {
+        reading = reading_next ws start i l was.reading z;
+        clauses = c ∙ was.clauses;
+        variables = v ∙ was.variables;
+        long = lw ∙ was.long;
+        low = omega arith;
+        high = hi ∙ was.high ∙ sym lw;
       }))

@@ -1,6 +1,7 @@
 -- A clause of which all literals, or all but one, are false.
-use Rattle.std.proofs.Common.{◌≡◌, ℕ, ◌+◌, ◌/◌, ◌<◌, Bool, true, false, List, length, get_or, sym, ap, ◌∙◌, subst, ⊎_elim, arith}
+use Rattle.std.proofs.Common.{◌≡◌, ◌≢◌, ℕ, ◌+◌, ◌/◌, ◌<◌, ◌≤◌, IfSome, Bool, true, false, Option, Some, None, List, length, get_or, sym, ap, ◌∙◌, subst, ⊎_elim, arith}
 use Rattle.std.proofs.lemmas.Bool.{cases_eq, true≢false}
+use Rattle.clauses.specs.declared.literal.Literal.{Literal}
 use Rattle.clauses.specs.Flat.{lit_truth, Model}
 use Rattle.kernel.specs.Trail.{Agrees, Clash, False, Forced, Free, Own}
 use Rattle.kernel.specs.Arena.{Clause}
@@ -9,6 +10,16 @@ use Rattle.kernel.proofs.Truth.{opposite_false}
 -- a literal that is false is false in each assignment that agrees
 pub false_in : (values : List ℕ) (x : ℕ) → Own values → x / 2 < length values → False values x → (s : ℕ → Bool) → Agrees s values → lit_truth s x ≡ false
 false_in values x own l f s a = opposite_false s (get_or values (x / 2) 0) x (own (x / 2) l f.set) f.other (a (x / 2) l f.set)
+
+-- the code of a literal that may be there, or 0
+abbrev pub code : Option Literal → ℕ
+code None = 0
+code (Some x) = x.0
+
+-- a literal has another variable than the one that may be there
+pub other_variable : (o : Option Literal) (y : ℕ) → 2 ≤ y → IfSome o (λ x. y / 2 ≢ x.0 / 2) → y / 2 ≡ code o / 2 → ⊥
+other_variable None y l ne e = omega arith
+other_variable (Some x) y l ne e = ne e
 
 -- k literals of a clause from i on are false or u, which is 0 or free
 pub record Looked (values arena : List ℕ) (i k u : ℕ) : Type 0 where

@@ -1,9 +1,9 @@
 -- What a scan of the words has shown.
-use Rattle.std.proofs.Common.{◌≡◌, ℕ, zero, suc, ◌+◌, ◌/◌, ◌<◌, ◌≤◌, Bool, true, false, ◌||◌, List, [], ◌∷◌, length, get_or, drop, sym, refl, ◌∙◌, subst, arith}
-use Rattle.std.proofs.lemmas.Bool.{true≢false}
+use Rattle.std.proofs.Common.{◌≡◌, ℕ, zero, suc, ◌+◌, ◌/◌, ◌<◌, ◌≤◌, Bool, true, false, ◌||◌, List, [], ◌∷◌, length, get_or, drop, sym, refl, ◌∙◌, subst, inl, inr, arith}
+use Rattle.std.proofs.lemmas.Bool.{true≢false, cases_eq}
 use Rattle.std.proofs.lemmas.List.{drop_more, drop_all}
 use Rattle.clauses.specs.Flat.{lit_truth, Meets, Model}
-use Rattle.kernel.specs.Trail.{Agrees, Clash, Own}
+use Rattle.kernel.specs.Trail.{Agrees, Clash, False, Own}
 use Rattle.kernel.specs.Scan.{Clear, Open}
 use Rattle.kernel.proofs.Truth.{opposite_false}
 
@@ -42,6 +42,13 @@ end_on s b (suc x) xs e h = absurd (omega arith)
 pub end_back : (s : ℕ → Bool) (b : Bool) (x : ℕ) (xs : List ℕ) → x ≡ 0 → b ≡ true → Meets s false xs → Meets s b (x ∷ xs)
 end_back s b zero xs e t h = (t, h)
 end_back s b (suc x) xs e t h = absurd (omega arith)
+
+-- a literal that is not false is open
+pub not_false : (vs : List ℕ) (x : ℕ) → (False vs x → ⊥) → Open vs x
+not_false vs x f = elim (cases_eq (get_or vs (x / 2) 0) 0) [
+  | inl e ↦ inl e
+  | inr ne ↦ elim (cases_eq (get_or vs (x / 2) 0) x) [ inl e ↦ inr e | inr other ↦ absurd (f (record { set = ne; other = other })) ]
+]
 
 -- up to word i no clause was false; b: nor is the one that word i stands in, as yet
 pub record Scan (ws vs : List ℕ) (i : ℕ) (b : Bool) : Type 0 where

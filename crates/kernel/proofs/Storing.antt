@@ -1,7 +1,10 @@
 -- Storing a clause in the gap, from elsewhere or from the arena itself.
-use Rattle.std.proofs.Common.{◌≡◌, ℕ, ◌+◌, ◌-◌, ◌<◌, ◌≤◌, List, length, get_or, set, sym, refl, ap, ◌∙◌, subst, inl, inr, ⊎_elim, arith, length-set, get_or-set_other, get_or-set_same}
+use Rattle.std.proofs.Common.{◌≡◌, ℕ, ◌+◌, ◌-◌, ◌<◌, ◌≤◌, List, ◌++◌, length, get_or, take, drop, set, zero-add, sym, refl, ap, ◌∙◌, subst, inl, inr, ⊎_elim, arith, length-drop, length-set, get_or-set_other, get_or-set_same}
 use Rattle.std.proofs.lemmas.Bool.{cases_eq, cases_lt}
-use Rattle.kernel.specs.Arena.{head, size, Clause, Headed, Arena, Header}
+use Rattle.std.proofs.lemmas.List.{length-append, length-take-le, get_or-take, get_or-drop, get_or_append_left, get_or-append-add}
+use Rattle.std.specs.List.{CopiedTo, SameBelow, SameFrom}
+use borrow.Rule.Slice.PartMut.{put_mid}
+use Rattle.kernel.specs.Arena.{head, size, Clause, Headed, IsArena, Header}
 use Rattle.kernel.proofs.Arenas.{clause_moved, gap_clear}
 
 -- the arena is as it was outside the gap, has the first k words of src from at on in it, and no header there
@@ -11,33 +14,50 @@ pub record Storing (was arena src : List ℕ) (low high at k : ℕ) : Type 0 whe
   pub put : (j : ℕ) → j < k → get_or arena (low + 1 + j) 0 ≡ get_or src (at + j) 0
   pub clear : (p : ℕ) → low ≤ p → p < high → get_or arena p 0 < head
 
-pub storing_start : (ws was src : List ℕ) (m low high at : ℕ) → Arena ws was m low high → Storing was was src low high at 0
-storing_start ws was src m low high at ar = record {
-  under = λ p l. refl;
-  over = λ p l. refl;
-  put = λ j l. absurd (omega arith);
-  clear = gap_clear ws was m low high ar;
-}
+-- what a list has after others were written into it from a on
+module _ (xs ys : List ℕ) (a k : ℕ) (fits : a + length ys ≤ length xs) (long : length ys ≡ k) where
+  front : length (take a xs) ≡ a
+  front = length-take-le a xs (omega arith)
 
-pub storing_more : (was arena src : List ℕ) (low high at k x : ℕ) → low + 1 + k < high → high ≤ length arena → x < head → x ≡ get_or src (at + k) 0 → Storing was arena src low high at k → Storing was (set arena (low + 1 + k) x) src low high at (k + 1)
-storing_more was arena src low high at k x l fits low_x is st =
-    let to : ℕ = low + 1 + k in
-    let here : get_or (set arena to x) to 0 ≡ x = get_or-set_same arena to x 0 (omega arith) in
+  pub length_put : length (put_mid a k xs ys) ≡ length xs
+  length_put = omega (arith, length-append (take a xs) (ys ++ drop k (drop a xs)), length-append ys (drop k (drop a xs)), length-drop k (drop a xs), length-drop a xs, front)
+
+  put_below : (p : ℕ) → p < a → get_or (put_mid a k xs ys) p 0 ≡ get_or xs p 0
+  put_below p l = get_or_append_left (take a xs) (ys ++ drop k (drop a xs)) 0 p (omega (arith, front)) ∙ get_or-take a xs p 0 l
+
+  pub put_within : (j : ℕ) → j < length ys → get_or (put_mid a k xs ys) (a + j) 0 ≡ get_or ys j 0
+  put_within j l =
+      ap (λ (n : ℕ). get_or (put_mid a k xs ys) (n + j) 0) (sym front) ∙ get_or-append-add (take a xs) (ys ++ drop k (drop a xs)) j 0 ∙ get_or_append_left ys (drop k (drop a xs)) 0 j l
+
+  pub put_above : (p : ℕ) → a + length ys ≤ p → get_or (put_mid a k xs ys) p 0 ≡ get_or xs p 0
+  put_above p l =
+      let past : p ≡ length (take a xs) + (length ys + (p - a - length ys)) = omega (arith, front) in
+      let at : a + (k + (p - a - length ys)) ≡ p = omega arith in
+      ap (λ (n : ℕ). get_or (put_mid a k xs ys) n 0) past ∙ get_or-append-add (take a xs) (ys ++ drop k (drop a xs)) (length ys + (p - a - length ys)) 0
+      ∙ get_or-append-add ys (drop k (drop a xs)) (p - a - length ys) 0 ∙ get_or-drop k (drop a xs) (p - a - length ys) 0 ∙ get_or-drop a xs (k + (p - a - length ys)) 0 ∙ ap (λ (n : ℕ). get_or xs n 0) at
+
+-- a clause's literals are written into the gap
+pub storing_put : (ws was src : List ℕ) (m low high k : ℕ) → IsArena ws was m low high → Clause ws src m 0 (length src) → low + 1 + length src ≤ high → length src ≡ k → Storing was (put_mid (low + 1) k was src) src low high 0 (length src)
+storing_put ws was src m low high k ar cl room long =
+    let fits = ar.fits in
+    let gap = gap_clear ws was m low high ar in
+    let inside : low + 1 + length src ≤ length was = omega arith in
     record {
-      under = λ p b. get_or-set_other arena to p x 0 (λ e. omega arith) ∙ st.under p b;
-      over = λ p b. get_or-set_other arena to p x 0 (λ e. omega arith) ∙ st.over p b;
-      put = λ j b. ⊎_elim
-          (λ e. ap (λ (q : ℕ). get_or (set arena to x) (low + 1 + q) 0) e ∙ here ∙ is ∙ ap (λ (q : ℕ). get_or src (at + q) 0) (sym e))
-          (λ ne. get_or-set_other arena to (low + 1 + j) x 0 (λ e. omega arith) ∙ st.put j (omega arith))
-          (cases_eq j k);
-      clear = λ p b c. ⊎_elim
-          (λ e. omega (arith, ap (λ (q : ℕ). get_or (set arena to x) q 0) e))
-          (λ ne. omega (arith, get_or-set_other arena to p x 0 ne, st.clear p b c))
-          (cases_eq p to);
+      under = λ p l. put_below was src (low + 1) k inside long p (omega arith);
+      over = λ p l. put_above was src (low + 1) k inside long p (omega arith);
+      put = λ j l. put_within was src (low + 1) k inside long j l ∙ ap (λ (n : ℕ). get_or src n 0) (sym (zero-add j));
+      clear = λ p a b. ⊎_elim
+          (λ l. omega (arith, put_below was src (low + 1) k inside long p l, gap p a b))
+          (λ g. ⊎_elim
+          (λ l. let j : ℕ = p - (low + 1) in let at : low + 1 + j ≡ p = omega arith in
+          omega (arith, ap (λ (n : ℕ). get_or (put_mid (low + 1) k was src) n 0) at, put_within was src (low + 1) k inside long j (omega arith), ap (λ (n : ℕ). get_or src n 0) (zero-add j), (cl.words j (omega arith)).low))
+          (λ o. omega (arith, put_above was src (low + 1) k inside long p o, gap p a b))
+          (cases_lt p (low + 1 + length src)))
+          (cases_lt p (low + 1));
     }
 
 -- the header comes last
-pub stored : (ws was arena src : List ℕ) (m low high at n : ℕ) → Arena ws was m low high → Clause ws src m at n → low + 1 + n ≤ high → length arena ≡ length was → Storing was arena src low high at n → Arena ws (set arena low (head + n)) m (low + 1 + n) high
+pub stored : (ws was arena src : List ℕ) (m low high at n : ℕ) → IsArena ws was m low high → Clause ws src m at n → low + 1 + n ≤ high → length arena ≡ length was → Storing was arena src low high at n → IsArena ws (set arena low (head + n)) m (low + 1 + n) high
 stored ws was arena src m low high at n ar cl room long st =
     let arena' : List ℕ = set arena low (head + n) in
     let long' = length-set arena low (head + n) in
@@ -81,29 +101,34 @@ stored ws was arena src m low high at n ar cl room long st =
 pub stored_header : (arena : List ℕ) (low n : ℕ) → low < length arena → get_or (set arena low (head + n)) low 0 ≡ head + n
 stored_header arena low n l = get_or-set_same arena low (head + n) 0 l
 
--- a clause at c of the arena itself, its header cleared: what is not yet read is as it was
-pub record Moving (was arena : List ℕ) (low c n k : ℕ) : Type 0 where
-  pub storing : Storing was arena was low (c + 1 + n) (c + 1) k
-  pub rest : (p : ℕ) → c + 1 + k ≤ p → get_or arena p 0 ≡ get_or was p 0
-
-pub dropped_clause : (ws arena : List ℕ) (m low c : ℕ) → Arena ws arena m low c → Header arena c → Clause ws (set arena c 0) m (c + 1) (size arena c)
+pub dropped_clause : (ws arena : List ℕ) (m low c : ℕ) → IsArena ws arena m low c → Header arena c → Clause ws (set arena c 0) m (c + 1) (size arena c)
 dropped_clause ws arena m low c ar hd = clause_moved ws arena (set arena c 0) m (c + 1) (c + 1) (size arena c) (λ k b. get_or-set_other arena c (c + 1 + k) 0 0 (λ e. omega arith)) (ar.headed c hd.below hd.high).clause
 
-module _ (ws was : List ℕ) (m low c n : ℕ) (ar : Arena ws was m low (c + 1 + n)) where
-  pub moving_start : Moving was was low c n 0
-  moving_start = record { storing = storing_start ws was was m low (c + 1 + n) (c + 1) ar; rest = λ p l. refl }
+-- a clause at c of the arena itself, its header cleared, is copied down to low
+module _ (ws was arena : List ℕ) (m low c n : ℕ) (ar : IsArena ws was m low (c + 1 + n)) (le : low ≤ c) (cl : Clause ws was m (c + 1) n)
+    (copied : CopiedTo was arena (c + 1) (low + 1) n) (below : SameBelow was arena (low + 1)) (above : SameFrom was arena (low + 1 + n)) (long : length arena ≡ length was) where
+  storing_moved : Storing was arena was low (c + 1 + n) (c + 1) n
+  storing_moved =
+      let gap = gap_clear ws was m low (c + 1 + n) ar in
+      let put : (j : ℕ) → j < n → get_or arena (low + 1 + j) 0 ≡ get_or was (c + 1 + j) 0 = λ j l. copied (low + 1 + j) 0 (omega arith) (omega arith) ∙ ap (λ (i : ℕ). get_or was (c + 1 + i) 0) (omega arith) in
+      record {
+        under = λ p l. below p 0 (omega arith);
+        over = λ p l. above p 0 (omega arith);
+        put = put;
+        clear = λ p a b. ⊎_elim
+            (λ l. omega (arith, below p 0 l, gap p a b))
+            (λ g. ⊎_elim
+            (λ l. let j : ℕ = p - (low + 1) in let at : low + 1 + j ≡ p = omega arith in
+            omega (arith, ap (λ (i : ℕ). get_or arena i 0) at, put j (omega arith), (cl.words j (omega arith)).low))
+            (λ o. omega (arith, above p 0 o, gap p a b))
+            (cases_lt p (low + 1 + n)))
+            (cases_lt p (low + 1));
+      }
 
-  module _ (arena : List ℕ) (le : low ≤ c) (cl : Clause ws was m (c + 1) n) (long : length arena ≡ length was) where
-    pub moving_more : (k : ℕ) → k < n → Moving was arena low c n k → Moving was (set arena (low + 1 + k) (get_or arena (c + 1 + k) 0)) low c n (k + 1)
-    moving_more k l mv =
-        let fits = ar.fits in
-        let same : get_or arena (c + 1 + k) 0 ≡ get_or was (c + 1 + k) 0 = mv.rest (c + 1 + k) (omega arith) in
-        record {
-          storing = storing_more was arena was low (c + 1 + n) (c + 1) k (get_or arena (c + 1 + k) 0) (omega arith) (omega arith) (omega (arith, same, (cl.words k l).low)) same mv.storing;
-          rest = λ p b. get_or-set_other arena (low + 1 + k) p (get_or arena (c + 1 + k) 0) 0 (λ e. omega arith) ∙ mv.rest p (omega arith);
-        }
+  pub moved : (header : ℕ) → header ≡ head + n → IsArena ws (set arena low header) m (low + 1 + n) (c + 1 + n)
+  moved header e =
+      subst (λ h. IsArena ws (set arena low h) m (low + 1 + n) (c + 1 + n)) (sym e)
+      (stored ws was arena was m low (c + 1 + n) (c + 1) n ar cl (omega arith) long storing_moved)
 
-    pub moved : (header : ℕ) → header ≡ head + n → Moving was arena low c n n → Arena ws (set arena low header) m (low + 1 + n) (c + 1 + n)
-    moved header e mv =
-        subst (λ h. Arena ws (set arena low h) m (low + 1 + n) (c + 1 + n)) (sym e)
-        (stored ws was arena was m low (c + 1 + n) (c + 1) n ar cl (omega arith) long mv.storing)
+  pub moved_to : (header to : ℕ) → header ≡ head + n → to ≡ low + 1 + n → IsArena ws (set arena low header) m to (c + 1 + n)
+  moved_to header to e t = subst (λ l. IsArena ws (set arena low header) m l (c + 1 + n)) (sym t) (moved header e)

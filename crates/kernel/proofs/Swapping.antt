@@ -2,34 +2,13 @@
 use Rattle.std.proofs.Common.{◌≡◌, ℕ, ◌+◌, ◌-◌, ◌<◌, ◌≤◌, List, length, get_or, set, sym, ap, ◌∙◌, subst, inl, inr, ⊎_elim, arith, length-set, get_or-set_other, get_or-set_same}
 use Rattle.std.proofs.lemmas.Bool.{cases_eq, cases_lt}
 use Rattle.clauses.specs.Flat.{lit_truth}
-use Rattle.kernel.specs.Arena.{head, size, Word, Clause, Headed, Arena, Header}
+use Rattle.kernel.specs.Arena.{head, size, Word, Clause, Headed, IsArena, Header}
 use Rattle.kernel.proofs.Arenas.{clause_moved, in_clause}
 
-module _ (ws arena : List ℕ) (m low high c p q : ℕ) (ar : Arena ws arena m low high) (hd : Header arena c) (pl : c < p) (pr : p ≤ c + size arena c) (ql : c < q) (qr : q ≤ c + size arena c) where
+module _ (ws arena swapped : List ℕ) (m low high c p q : ℕ) (ar : IsArena ws arena m low high) (hd : Header arena c) (pl : c < p) (pr : p ≤ c + size arena c) (ql : c < q) (qr : q ≤ c + size arena c)
+    (at_p : get_or swapped p 0 ≡ get_or arena q 0) (at_q : get_or swapped q 0 ≡ get_or arena p 0) (at_other : (j : ℕ) → (j ≡ p → ⊥) → (j ≡ q → ⊥) → get_or swapped j 0 ≡ get_or arena j 0) (long : length swapped ≡ length arena) where
   home : Headed ws arena m low high c
   home = ar.headed c hd.below hd.high
-
-  swapped : List ℕ
-  swapped = set (set arena p (get_or arena q 0)) q (get_or arena p 0)
-
-  at_q : get_or swapped q 0 ≡ get_or arena p 0
-  unfolding swapped
-  at_q = get_or-set_same (set arena p (get_or arena q 0)) q (get_or arena p 0) 0 (omega (arith, home.within, ar.fits, length-set arena p (get_or arena q 0)))
-
-  at_p : get_or swapped p 0 ≡ get_or arena q 0
-  unfolding swapped
-  at_p = ⊎_elim
-      (λ e. ap (λ (j : ℕ). get_or swapped j 0) e ∙ at_q ∙ ap (λ (j : ℕ). get_or arena j 0) e)
-      (λ ne. get_or-set_other (set arena p (get_or arena q 0)) q p (get_or arena p 0) 0 ne ∙ get_or-set_same arena p (get_or arena q 0) 0 (omega (arith, home.within, ar.fits)))
-      (cases_eq p q)
-
-  at_other : (j : ℕ) → (j ≡ p → ⊥) → (j ≡ q → ⊥) → get_or swapped j 0 ≡ get_or arena j 0
-  unfolding swapped
-  at_other j np nq = get_or-set_other (set arena p (get_or arena q 0)) q j (get_or arena p 0) 0 nq ∙ get_or-set_other arena p j (get_or arena q 0) 0 np
-
-  long : length swapped ≡ length arena
-  unfolding swapped
-  long = length-set (set arena p (get_or arena q 0)) q (get_or arena p 0) ∙ length-set arena p (get_or arena q 0)
 
   -- where each word of the clause has gone
   gone : (j : ℕ) → c < j → j ≤ c + size arena c → (k : ℕ) × (c < k) × (k ≤ c + size arena c) × (get_or swapped k 0 ≡ get_or arena j 0)
@@ -68,8 +47,8 @@ module _ (ws arena : List ℕ) (m low high c p q : ℕ) (ar : Arena ws arena m l
       (λ right. omega (arith, hi, (in_clause ws arena m low high c home i (omega arith) (omega arith)).low))
       (cases_lt i c)
 
-  exchanged' : Arena ws swapped m low high
-  exchanged' = record {
+  pub exchanged : IsArena ws swapped m low high
+  exchanged = record {
     order = ar.order;
     fits = omega (arith, ar.fits, long);
     headed = λ i b h.
@@ -91,10 +70,5 @@ module _ (ws arena : List ℕ) (m low high c p q : ℕ) (ar : Arena ws arena m l
         };
   }
 
-  pub exchanged : Arena ws (set (set arena p (get_or arena q 0)) q (get_or arena p 0)) m low high
-  unfolding swapped
-  exchanged = exchanged'
-
-  pub exchanged_header : get_or (set (set arena p (get_or arena q 0)) q (get_or arena p 0)) c 0 ≡ get_or arena c 0
-  unfolding swapped
+  pub exchanged_header : get_or swapped c 0 ≡ get_or arena c 0
   exchanged_header = at_other c (λ e. omega arith) (λ e. omega arith)

@@ -1,13 +1,14 @@
 -- What setting and freeing a literal keep of the trail, and what a clash says.
-use Rattle.std.proofs.Common.{◌≡◌, ℕ, zero, suc, ◌+◌, ◌-◌, ◌/◌, ◌^◌, ◌<◌, ◌≤◌, Bool, ◌≢◌, List, length, get_or, take, set, sym, ap, ◌∙◌, subst, ⊎_elim, arith, length-set, get_or-set_other, get_or-set_same}
+use Rattle.std.proofs.Common.{◌≡◌, ℕ, zero, suc, ◌+◌, ◌-◌, ◌/◌, ◌^◌, ◌<◌, ◌≤◌, Bool, ◌≢◌, List, [], ◌∷◌, ◌++◌, length, get_or, take, drop, set, sym, refl, ap, ◌∙◌, subst, ⊎_elim, arith, length-set, get_or-set_other, get_or-set_same}
 use Rattle.std.proofs.lemmas.Bool.{cases_eq, cases_lt, cases_Bool}
+use Rattle.std.proofs.lemmas.List.{length-append, length-take-le, take_at, get_or_at, take-take, get_or-take, get_or-drop}
 use Rattle.clauses.specs.Flat.{lit_truth, Model, Within, Hopeless}
-use Rattle.kernel.specs.Trail.{Stands, Trail, Holds, Entails, Sound, Agrees, Clash, Own, Forced, State, Further, Turned, Went, Last, rank}
+use Rattle.kernel.specs.Trail.{Stands, IsTrail, Holds, Entails, Sound, Agrees, Clash, Own, Forced, State, Trailed, Further, Went, IsLast, NoDecision, rank, rank_of}
 use Rattle.kernel.proofs.Truth.{opposite_true}
 use Rattle.kernel.proofs.Zeros.{zeros_fill, zeros_free, zeros_some, zeros_all}
 use Rattle.kernel.proofs.Ranks.{push_grows, turn_grows, rank_below}
 
-pub empty_trail : (vs ts : List ℕ) → ((k : ℕ) → k < length vs → get_or vs k 0 ≡ 0) → length vs ≤ length ts → Trail vs ts 0
+pub empty_trail : (vs ts : List ℕ) → ((k : ℕ) → k < length vs → get_or vs k 0 ≡ 0) → length vs ≤ length ts → IsTrail vs ts 0
 empty_trail vs ts h l = record {
   on = λ p q. absurd (omega arith);
   own = λ k q f. absurd (f (h k q));
@@ -16,7 +17,7 @@ empty_trail vs ts h l = record {
   room = l;
 }
 
-module _ (vs ts : List ℕ) (n : ℕ) (was : Trail vs ts n) where
+module _ (vs ts : List ℕ) (n : ℕ) (was : IsTrail vs ts n) where
   -- there is room where a variable is free
   pub has_room : (k : ℕ) → k < length vs → get_or vs k 0 ≡ 0 → n < length ts
   has_room k h e = omega (arith, zeros_some vs k h e, was.counted, was.room)
@@ -40,7 +41,7 @@ module _ (vs ts : List ℕ) (n : ℕ) (was : Trail vs ts n) where
         let at = was.on p h in
         omega (arith, at.lit, at.set, ap (λ (i : ℕ). get_or vs i 0) e, free)
 
-    pub pushed : Trail (set vs (x / 2) x) (set ts n x) (n + 1)
+    pub pushed : IsTrail (set vs (x / 2) x) (set ts n x) (n + 1)
     pushed =
         let room = has_room (x / 2) fits free in
         let lv = length-set vs (x / 2) x in
@@ -96,11 +97,11 @@ module _ (vs ts : List ℕ) (n : ℕ) (was : Trail vs ts n) where
         }
 
     -- the same at the place that the code has worked out
-    pub pushed_at : (i : ℕ) → i ≡ x / 2 → Trail (set vs i x) (set ts n x) (n + 1)
-    pushed_at i e = subst (λ (j : ℕ). Trail (set vs j x) (set ts n x) (n + 1)) (sym e) pushed
+    pub pushed_at : (i : ℕ) → i ≡ x / 2 → IsTrail (set vs i x) (set ts n x) (n + 1)
+    pushed_at i e = subst (λ (j : ℕ). IsTrail (set vs j x) (set ts n x) (n + 1)) (sym e) pushed
 
 -- the last literal is freed
-pub popped : (vs ts : List ℕ) (n : ℕ) → Trail vs ts (n + 1) → Trail (set vs (get_or ts n 0 / 2) 0) ts n
+pub popped : (vs ts : List ℕ) (n : ℕ) → IsTrail vs ts (n + 1) → IsTrail (set vs (get_or ts n 0 / 2) 0) ts n
 popped vs ts n was =
     let last = was.on n (omega arith) in
     let v : ℕ = get_or ts n 0 / 2 in
@@ -132,10 +133,21 @@ popped vs ts n was =
       room = omega (arith, was.room);
     }
 
-pub popped_at : (vs ts : List ℕ) (n i : ℕ) → 0 < n → i ≡ get_or ts (n - 1) 0 / 2 → Trail vs ts n → Trail (set vs i 0) ts (n - 1)
+pub popped_at : (vs ts : List ℕ) (n i : ℕ) → 0 < n → i ≡ get_or ts (n - 1) 0 / 2 → IsTrail vs ts n → IsTrail (set vs i 0) ts (n - 1)
 popped_at vs ts n i l e was =
     let back : n ≡ n - 1 + 1 = omega arith in
-    subst (λ (j : ℕ). Trail (set vs j 0) ts (n - 1)) (sym e) (popped vs ts (n - 1) (subst (Trail vs ts) back was))
+    subst (λ (j : ℕ). IsTrail (set vs j 0) ts (n - 1)) (sym e) (popped vs ts (n - 1) (subst (IsTrail vs ts) back was))
+
+-- the last of the literals from place k on is freed
+pub popped_back : (vs ts rest rest' : List ℕ) (k x i : ℕ) → rest ≡ rest' ++ x ∷ [] → rest ≡ take (length rest) (drop k ts) → i ≡ x / 2 → IsTrail vs ts (k + length rest) → (rest' ≡ take (length rest') (drop k ts)) × IsTrail (set vs i 0) ts (k + length rest')
+popped_back vs ts rest rest' k x i split part half was =
+    let long : length rest ≡ length rest' + 1 = ap length split ∙ length-append rest' (x ∷ []) in
+    let last : x ≡ get_or ts (k + length rest') 0 =
+    sym (get_or_at rest' x [] 0 (length rest') refl) ∙ sym (ap (λ xs. get_or xs (length rest') 0) split) ∙ ap (λ xs. get_or xs (length rest') 0) part ∙ get_or-take (length rest) (drop k ts) (length rest') 0 (omega arith) ∙ get_or-drop k ts (length rest') 0 in
+    let front : rest' ≡ take (length rest') (drop k ts) =
+    sym (take_at rest' (x ∷ []) (length rest') refl) ∙ sym (ap (take (length rest')) split) ∙ ap (take (length rest')) part ∙ take-take (length rest') (length rest) (drop k ts) (omega arith) in
+    let less : k + length rest - 1 ≡ k + length rest' = omega arith in
+    (front, subst (IsTrail (set vs i 0) ts) less (popped_at vs ts (k + length rest) i (omega arith) (half ∙ ap (λ (j : ℕ). j / 2) last ∙ ap (λ (j : ℕ). get_or ts j 0 / 2) (sym less)) was))
 
 -- fewer literals, and one more
 pub sound_less : (ws ts ks : List ℕ) (m n : ℕ) → m ≤ n → Sound ws ts ks n → Sound ws ts ks m
@@ -164,7 +176,7 @@ holds_on ws ts ks n r snd imp s md h (suc m) l q b =
     (λ ne. before q (omega arith))
     (cases_eq q m)
 
-module _ (ws vs ts ks : List ℕ) (n : ℕ) (was : Trail vs ts n) (snd : Sound ws ts ks n) (clash : Clash ws vs) where
+module _ (ws vs ts ks : List ℕ) (n : ℕ) (was : IsTrail vs ts n) (snd : Sound ws ts ks n) (clash : Clash ws vs) where
   -- a clash with no decision left
   pub clash_ends : ((p : ℕ) → p < n → get_or ks p 0 ≡ 0 → ⊥) → Hopeless ws
   clash_ends imp s md = clash s (trail_agrees vs ts n was s (holds_on ws ts ks n 0 snd (λ p _ h. imp p h) s md (λ q b. absurd (omega arith)) n (omega arith))) md
@@ -178,7 +190,7 @@ module _ (ws vs ts ks : List ℕ) (n : ℕ) (was : Trail vs ts n) (snd : Sound w
       (cases_Bool (lit_truth s (get_or ts r 0)))
 
 -- what was cut off is free
-pub freed : (vs us ts : List ℕ) (n r : ℕ) → Trail vs ts n → Trail us ts r → length us ≡ length vs → r < n → get_or us (get_or ts r 0 / 2) 0 ≡ 0
+pub freed : (vs us ts : List ℕ) (n r : ℕ) → IsTrail vs ts n → IsTrail us ts r → length us ≡ length vs → r < n → get_or us (get_or ts r 0 / 2) 0 ≡ 0
 freed vs us ts n r was now e l =
     let last = was.on r l in
     let fits : get_or ts r 0 / 2 < length us = omega (arith, last.fits) in
@@ -191,57 +203,71 @@ freed vs us ts n r was now e l =
     (cases_eq (get_or us (get_or ts r 0 / 2) 0) 0)
 
 -- a literal is set: what `push` leaves
-pub further : (ws vs us ts ks : List ℕ) (n x k : ℕ) → ((k ≡ 0 → ⊥) → Entails ws ts n x) → State ws vs ts ks n → Trail us (set ts n x) (n + 1) → length us ≡ length vs → n < length vs → Further ws us (set ts n x) ks (set ks n k) n (n + 1)
-further ws vs us ts ks n x k new was now e l =
+pub pushed_state : (ws vs us ts ts' ks ks' : List ℕ) (n x k : ℕ) → ((k ≡ 0 → ⊥) → Entails ws ts n x) → State ws vs ts ks n → IsTrail us ts' (n + 1) → ts' ≡ set ts n x → ks' ≡ set ks n k → length us ≡ length vs → n < length vs → State ws us ts' ks' (n + 1)
+pushed_state ws vs us ts ts' ks ks' n x k new was now et ek e l =
     let lt = was.trail.room in
     let lk = was.room in
     record {
-      state = record {
-        trail = now;
-        sound = sound_push ws ts ks n x k (omega arith) (omega arith) new was.sound;
-        within = λ k h. omega (arith, was.within k h);
-        room = omega (arith, length-set ks n k);
-      };
-      more = push_grows (length us) ks n k (omega arith) (omega arith);
+      trail = now;
+      sound = subst (λ t. Sound ws t ks' (n + 1)) (sym et) (subst (λ q. Sound ws (set ts n x) q (n + 1)) (sym ek) (sound_push ws ts ks n x k (omega arith) (omega arith) new was.sound));
+      within = λ j h. omega (arith, was.within j h);
+      room = omega (arith, length-set ks n k, ap length ek);
     }
+
+pub pushed_more : (ws vs us ts ks ks' : List ℕ) (n k : ℕ) → State ws vs ts ks n → ks' ≡ set ks n k → length us ≡ length vs → n < length vs → rank (length vs) (take n ks) < rank (length us) (take (n + 1) ks')
+pushed_more ws vs us ts ks ks' n k was ek e l =
+    let lk = was.room in
+    rw (e, ek) (push_grows (length vs) ks n k (omega arith) l)
 
 -- the last decision is turned: what `cut` and `push` leave
-pub turned : (ws vs us ts ks : List ℕ) (n r y : ℕ) → State ws vs ts ks n → Clash ws vs → Last ks n (r + 1) → get_or ts r 0 / 2 ≡ y / 2 → (get_or ts r 0 ≡ y → ⊥) → Trail us (set ts r y) (r + 1) → length us ≡ length vs → Further ws us (set ts r y) ks (set ks r 1) n (r + 1)
-turned ws vs us ts ks n r y was clash last half other now e =
-    let lt = was.trail.room in
-    let lk = was.room in
-    let lc = was.trail.counted in
-    let lw = last.within in
-    let here : get_or ks r 0 ≡ 0 = ap (λ (i : ℕ). get_or ks i 0) (omega arith) ∙ last.here (omega arith) in
-    record {
-      state = record {
+module _ (ws vs us ts ts' ks ks' : List ℕ) (n r y : ℕ) (was : State ws vs ts ks n) (clash : Clash ws vs) (in_use : r < n) (here : get_or ks r 0 ≡ 0) (after : (p : ℕ) → r + 1 ≤ p → p < n → get_or ks p 0 ≡ 0 → ⊥) where
+  pub turned_state : y / 2 ≡ get_or ts r 0 / 2 → (y ≡ get_or ts r 0 → ⊥) → IsTrail us ts' (r + 1) → ts' ≡ set ts r y → ks' ≡ set ks r 1 → length us ≡ length vs → State ws us ts' ks' (r + 1)
+  turned_state half other now et ek e =
+      let lt = was.trail.room in
+      let lk = was.room in
+      let lc = was.trail.counted in
+      record {
         trail = now;
-        sound = sound_push ws ts ks r y 1 (omega arith) (omega arith) (λ _. clash_turns ws vs ts ks n was.trail was.sound clash r y (omega arith) last.after half other) (sound_less ws ts ks r n (omega arith) was.sound);
+        sound = subst (λ t. Sound ws t ks' (r + 1)) (sym et) (subst (λ q. Sound ws (set ts r y) q (r + 1)) (sym ek)
+            (sound_push ws ts ks r y 1 (omega arith) (omega arith) (λ _. clash_turns ws vs ts ks n was.trail was.sound clash r y in_use after (sym half) (λ e. other (sym e))) (sound_less ws ts ks r n (omega arith) was.sound)));
         within = λ k h. omega (arith, was.within k h);
-        room = omega (arith, length-set ks r 1);
-      };
-      more = turn_grows (length us) ks n r 1 (omega arith) (omega arith) (omega arith) here (λ z. omega arith);
-    }
+        room = omega (arith, length-set ks r 1, ap length ek);
+      }
 
-pub turned_to : (ws vs us ts ts' ks ks' : List ℕ) (n m y : ℕ) → State ws vs ts ks n → Clash ws vs → Last ks n m → 0 < m → get_or ts (m - 1) 0 / 2 ≡ y / 2 → (get_or ts (m - 1) 0 ≡ y → ⊥) → Trail us ts' (m - 1 + 1) → ts' ≡ set ts (m - 1) y → ks' ≡ set ks (m - 1) 1 → length us ≡ length vs → Turned ws us ts' ks ks' n m
-turned_to ws vs us ts ts' ks ks' n m y was clash last l half other now et ek e =
-    let up : m - 1 + 1 ≡ m = omega arith in
-    let step = turned ws vs us ts ks n (m - 1) y was clash (subst (Last ks n) (sym up) last) half other (subst (λ t. Trail us t (m - 1 + 1)) et now) e in
-    record { none = λ z. absurd (omega arith); some = λ _. (subst (λ z. Further ws us ts' ks ks' n z) up (subst (λ t. Further ws us t ks ks' n (m - 1 + 1)) (sym et) (subst (λ k. Further ws us (set ts (m - 1) y) ks k n (m - 1 + 1)) (sym ek) step))) }
+  pub turned_more : ks' ≡ set ks r 1 → length us ≡ length vs → rank (length vs) (take n ks) < rank (length us) (take (r + 1) ks')
+  turned_more ek e =
+      let lt = was.trail.room in
+      let lk = was.room in
+      let lc = was.trail.counted in
+      rw (e, ek) (turn_grows (length vs) ks n r 1 in_use (omega arith) (omega arith) here (λ z. omega arith))
 
-pub further_to : (ws vs us ts ts' ks ks' : List ℕ) (n x k : ℕ) → ((k ≡ 0 → ⊥) → Entails ws ts n x) → State ws vs ts ks n → Trail us ts' (n + 1) → ts' ≡ set ts n x → ks' ≡ set ks n k → length us ≡ length vs → n < length vs → Further ws us ts' ks ks' n (n + 1)
-further_to ws vs us ts ts' ks ks' n x k new was now et ek e l =
-    let step = further ws vs us ts ks n x k new was (subst (λ t. Trail us t (n + 1)) et now) e l in
-    subst (λ t. Further ws us t ks ks' n (n + 1)) (sym et) (subst (λ k. Further ws us (set ts n x) ks k n (n + 1)) (sym ek) step)
+-- the last decision, of all kinds in use
+pub last_here : (ks : List ℕ) (n r : ℕ) → n ≤ length ks → IsLast (take n ks) r → (r < n) × (get_or ks r 0 ≡ 0) × ((p : ℕ) → r + 1 ≤ p → p < n → get_or ks p 0 ≡ 0 → ⊥)
+last_here ks n r h last =
+    let long = length-take-le n ks h in
+    let within : r < n = omega (arith, last.within) in
+    (within, sym (get_or-take n ks r 0 within) ∙ last.here, λ p l b z. last.after p (omega arith) (omega arith) (get_or-take n ks p 0 b ∙ z))
 
-pub forced_entails : (ws vs ts : List ℕ) (n x : ℕ) → Trail vs ts n → Forced ws vs x → Entails ws ts n x
+pub none_here : (ks : List ℕ) (n : ℕ) → n ≤ length ks → NoDecision (take n ks) (length (take n ks)) → (p : ℕ) → p < n → get_or ks p 0 ≡ 0 → ⊥
+none_here ks n h none p b z =
+    let long = length-take-le n ks h in
+    none.before p (omega arith) (get_or-take n ks p 0 b ∙ z)
+
+-- how many literals there are at most
+pub few : (ws vs ts ks : List ℕ) (n : ℕ) → State ws vs ts ks n → (n ≤ length ks) × (n ≤ length ts)
+few ws vs ts ks n st = (omega (arith, st.trail.counted, st.room), omega (arith, st.trail.counted, st.trail.room))
+
+-- literals are freed
+pub cut_state : (ws vs us ts ks : List ℕ) (n k : ℕ) → State ws vs ts ks n → k ≤ n → IsTrail us ts k → length us ≡ length vs → State ws us ts ks k
+cut_state ws vs us ts ks n k was le now e = record {
+  trail = now;
+  sound = sound_less ws ts ks k n le was.sound;
+  within = λ j h. omega (arith, was.within j h);
+  room = omega (arith, was.room);
+}
+
+pub forced_entails : (ws vs ts : List ℕ) (n x : ℕ) → IsTrail vs ts n → Forced ws vs x → Entails ws ts n x
 forced_entails ws vs ts n x was f s md h = f.holds s (trail_agrees vs ts n was s h) md
-
--- the measure falls
-pub falls : (ws us ts ks ks' : List ℕ) (n m v : ℕ) → length us ≡ v → Further ws us ts ks ks' n m → 3 ^ v - rank v (take m ks') < 3 ^ v - rank v (take n ks)
-falls ws us ts ks ks' n m v e step =
-    let more : rank v (take n ks) < rank v (take m ks') = subst (λ z. rank z (take n ks) < rank z (take m ks')) e step.more in
-    omega (arith, more, rank_below v (take m ks'))
 
 -- with no literal set a solver begins
 pub state_start : (ws vs ts ks : List ℕ) → ((k : ℕ) → k < length vs → get_or vs k 0 ≡ 0) → Within ws (length vs) → length vs ≤ length ts → length vs ≤ length ks → State ws vs ts ks 0
@@ -252,11 +278,17 @@ state_start ws vs ts ks free within lt lk = record {
   room = lk;
 }
 
--- steps on, one after another
-pub went_none : (ws vs ts ks : List ℕ) (n : ℕ) → State ws vs ts ks n → Went ws vs ts ks ks n n
-went_none ws vs ts ks n h = record { state = h; more = omega arith }
+-- the measure falls
+pub falls : (t t' : Trailed) → Further t t' → 3 ^ length t'.values - rank_of t' < 3 ^ length t.values - rank_of t
+falls t t' step =
+    rw step.long (omega (arith, step.more, step.long, rank_below (length t.values) t'.kinds, ap (λ (m : ℕ). rank m t'.kinds) step.long))
 
-pub went_further : (ws vs us ts rs ks ks' ks'' : List ℕ) (n m o : ℕ) → length us ≡ length vs → Went ws vs ts ks ks' n m → Further ws us rs ks' ks'' m o → Went ws us rs ks ks'' n o
-went_further ws vs us ts rs ks ks' ks'' n m o e w f =
-    let before : rank (length us) (take n ks) ≤ rank (length us) (take m ks') = subst (λ z. rank z (take n ks) ≤ rank z (take m ks')) (sym e) w.more in
-    record { state = f.state; more = omega (arith, before, f.more) }
+-- steps on, one after another
+pub went_none : (t : Trailed) → Went t t
+went_none t = record { clauses = refl; long = refl; more = omega arith }
+
+pub went_further : (t t' t'' : Trailed) → Went t t' → Further t' t'' → Went t t''
+went_further t t' t'' w f = record { clauses = f.clauses ∙ w.clauses; long = f.long ∙ w.long; more = omega (arith, w.more, f.more) }
+
+pub went_on : (t t' t'' : Trailed) → Went t t' → Went t' t'' → Went t t''
+went_on t t' t'' w v = record { clauses = v.clauses ∙ w.clauses; long = v.long ∙ w.long; more = omega (arith, w.more, v.more) }

@@ -35,7 +35,7 @@ pub record Headed (ws arena : List ℕ) (m low high i : ℕ) : Type 0 where
   pub clause : Clause ws arena m (i + 1) (size arena i)
 
 -- each header has its clause, and no header stands from low on below high: the gap
-pub record Arena (ws arena : List ℕ) (m low high : ℕ) : Type 0 where
+pub record IsArena (ws arena : List ℕ) (m low high : ℕ) : Type 0 where
   pub order : low ≤ high
   pub fits : high ≤ length arena
   pub headed : (i : ℕ) → i < length arena → head ≤ slice_index arena i → Headed ws arena m low high i
@@ -44,3 +44,15 @@ pub record Arena (ws arena : List ℕ) (m low high : ℕ) : Type 0 where
 pub record Header (arena : List ℕ) (c : ℕ) : Type 0 where
   pub below : c < length arena
   pub high : head ≤ slice_index arena c
+
+-- what an arena shows: the given clauses, how many variables there are, the words, and where the gap begins and ends
+pub record Stored : Type 0 where
+  pub clauses : List ℕ
+  pub words : List ℕ
+  pub variables : ℕ
+  pub low : ℕ
+  pub high : ℕ
+
+-- the literals are a clause that follows
+abbrev pub Follows : List ℕ → ℕ → List ℕ → Type 0
+Follows ws m lits = Clause ws lits m 0 (length lits)

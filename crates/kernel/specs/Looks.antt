@@ -1,7 +1,7 @@
 -- What a clause says under the values.
 use Rattle.std.specs.Prelude.{ℕ, List}
-use Rattle.kernel.specs.declared.arena.Look.{Look}
-use Rattle.kernel.specs.declared.arena.Look.TheVariants.{Open, Unit, Conflict}
+use Rattle.kernel.specs.declared.look.Look.{Look}
+use Rattle.kernel.specs.declared.look.Look.TheVariants.{Open, Unit, Conflict}
 use Rattle.kernel.specs.Trail.{Clash, Forced}
 
 abbrev pub Looks : List ℕ → List ℕ → Look → Type 0

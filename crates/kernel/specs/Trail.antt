@@ -22,7 +22,7 @@ pub record Stands (values trail : List ℕ) (p : ℕ) : Type 0 where
   pub lit : 2 ≤ slice_index trail p
 
 -- the shape of a trail of n literals: each is set, whatever is set is one of them, and their variables differ
-pub record Trail (values trail : List ℕ) (n : ℕ) : Type 0 where
+pub record IsTrail (values trail : List ℕ) (n : ℕ) : Type 0 where
   pub on : (p : ℕ) → p < n → Stands values trail p
   pub own : (k : ℕ) → k < length values → (slice_index values k ≢ 0) → Placed values trail n k
   pub apart : (p q : ℕ) → p < n → q < n → slice_index trail p / 2 ≡ slice_index trail q / 2 → p ≡ q
@@ -78,35 +78,49 @@ rank zero ks = 0
 rank (suc n) [] = 0
 rank (suc n) (k ∷ ks) = digit k * 3 ^ n + rank n ks
 
--- r places up to the last decision of the first n, or 0
-pub record Last (kinds : List ℕ) (n r : ℕ) : Type 0 where
-  pub within : r ≤ n
-  pub after : (p : ℕ) → r ≤ p → p < n → slice_index kinds p ≢ 0
-  pub here : 0 < r → slice_index kinds (r - 1) ≡ 0
+-- the last decision stands at r
+pub record IsLast (kinds : List ℕ) (r : ℕ) : Type 0 where
+  pub within : r < length kinds
+  pub here : slice_index kinds r ≡ 0
+  pub after : (p : ℕ) → r < p → p < length kinds → slice_index kinds p ≢ 0
 
 -- no decision stands at a place below r
-pub record NoDecision (kinds : List ℕ) (n r : ℕ) : Type 0 where
-  pub within : r ≤ n
+pub record NoDecision (kinds : List ℕ) (r : ℕ) : Type 0 where
+  pub within : r ≤ length kinds
   pub before : (p : ℕ) → p < r → slice_index kinds p ≢ 0
 
 -- what a solver keeps
 pub record State (ws vs ts ks : List ℕ) (n : ℕ) : Type 0 where
-  pub trail : Trail vs ts n
+  pub trail : IsTrail vs ts n
   pub sound : Sound ws ts ks n
   pub within : Within ws (length vs)
   pub room : length vs ≤ length ks
 
--- a step on: the trail's number grows
-pub record Further (ws values trail kinds kinds' : List ℕ) (n m : ℕ) : Type 0 where
-  pub state : State ws values trail kinds' m
-  pub more : rank (length values) (take n kinds) < rank (length values) (take m kinds')
+-- what a trail shows: the clauses, for each variable the code of its literal that is true or 0, the literals that are set,
+-- in their order, and of each 0 for a decision and another number for an implied one
+pub record Trailed : Type 0 where
+  pub clauses : List ℕ
+  pub values : List ℕ
+  pub literals : List ℕ
+  pub kinds : List ℕ
 
--- the last decision is turned, or there was none and no assignment meets the clauses
-pub record Turned (ws values trail kinds kinds' : List ℕ) (n m : ℕ) : Type 0 where
-  pub none : m ≡ 0 → Hopeless ws
-  pub some : (m ≢ 0) → Further ws values trail kinds kinds' n m
+abbrev pub rank_of : Trailed → ℕ
+rank_of t = rank (length t.values) t.kinds
+
+-- a step on: the trail's number grows
+pub record Further (t t' : Trailed) : Type 0 where
+  pub clauses : t'.clauses ≡ t.clauses
+  pub long : length t'.values ≡ length t.values
+  pub more : rank_of t < rank_of t'
 
 -- any number of steps on
-pub record Went (ws values trail kinds kinds' : List ℕ) (n m : ℕ) : Type 0 where
-  pub state : State ws values trail kinds' m
-  pub more : rank (length values) (take n kinds) ≤ rank (length values) (take m kinds')
+pub record Went (t t' : Trailed) : Type 0 where
+  pub clauses : t'.clauses ≡ t.clauses
+  pub long : length t'.values ≡ length t.values
+  pub more : rank_of t ≤ rank_of t'
+
+-- a literal that is set
+pub record IsSet (values : List ℕ) (x : ℕ) : Type 0 where
+  pub fits : x / 2 < length values
+  pub set : slice_index values (x / 2) ≡ x
+  pub lit : 2 ≤ x

@@ -6,174 +6,163 @@
 // Between `low` and `high` lies a gap with no header, into which a clause is stored. As a rule `high`
 // is the arena's length. A reduction opens the gap at 0 and goes through the clauses from the bottom:
 // it moves each one that it keeps down to `low`, and drops the others, so that the gap widens.
-ghost use Rattle.std.specs.Prelude.{◌≡◌, ℕ, ◌+◌, ◌<◌, ◌≤◌, false, length, MatchBool, slice_index};
+ghost use Rattle.std.specs.Prelude.{◌≡◌, ℕ, ◌+◌, ◌-◌, ◌<◌, ◌≤◌, false, length, MatchBool, MatchOption, slice_index};
 ghost use Rattle.clauses.specs.Flat.{Well, Within};
-ghost use Rattle.kernel.specs.Trail.{Own};
-ghost use Rattle.kernel.specs.Arena.{Arena, Clause, Header, head, size};
-ghost use Rattle.kernel.specs.Looks.{Looks};
+ghost use Rattle.kernel.specs.Arena.{Follows, Header, head, size};
 
-use clauses::Literal;
+use std::marker::Model;
 
 // The least header.
 pub const HEADER: u32 = 0x8000_0000;
 
-// What a clause says under the values: nothing as yet, its last literal that is not false, or that
-// all are false.
-#[derive(Clone, Copy)]
-pub enum Look {
-    Open,
-    Unit(Literal),
-    Conflict,
+#[derive(Drop)]
+pub struct Arena<'a> {
+    pub(crate) clauses: &'a [u32],
+    pub(crate) words: &'a mut [u32],
+    variables: usize,
+    pub(crate) low: usize,
+    pub(crate) high: usize,
 }
 
-// Whether a clause's header stands at c.
-pub fn is_header(arena: &[u32], c: usize) -> bool
-    ensures { MatchBool result (Header arena.now c) (Header arena.now c → ⊥) }
-{
-    c < arena.len() && arena[c] >= HEADER
+impl<'a> Model for Arena<'a> {
+    ghost use Rattle.kernel.specs.Arena.{IsArena, Stored};
+
+    ghost Value = { Stored };
+
+    ghost view = { λ a. record { clauses = a.clauses.now; words = a.words.now; variables = a.variables; low = a.low; high = a.high } };
+
+    ghost invariant = { λ a. IsArena a.clauses.now a.words.now a.variables a.low a.high };
 }
 
-// How many literals the clause whose header stands at c has.
-pub fn clause_length(arena: &[u32], c: usize) -> usize
-    requires { Header arena.now c }
-    ensures { result ≡ size arena.now c }
-{
-    (arena[c] - HEADER) as usize
-}
-
-// Looks at the clause whose header stands at c.
-pub fn examine(
-    clauses: &[u32],
-    values: &[u32],
-    arena: &[u32],
-    low: usize,
-    high: usize,
-    c: usize,
-) -> Look
-    requires arena { Arena clauses.now arena.now (length values.now) low high }
-    requires own { Own values.now }
-    requires header { Header arena.now c }
-    ensures { Looks clauses.now values.now result }
-{
-    let n = (arena[c] - HEADER) as usize;
-    let mut unit = 0;
-    for k in 0..n {
-        let x = arena[c + 1 + k];
-        let v = values[(x / 2) as usize];
-        if v == x {
-            return Look::Open;
+impl<'a> Arena<'a> {
+    // An arena with no clause, over variables whose numbers are below `variables`.
+    fn empty(clauses: &'a [u32], words: &'a mut [u32], variables: usize) -> Arena<'a>
+        ensures clauses { result.clauses ≡ clauses.now }
+        ensures variables { result.variables ≡ variables }
+        ensures long { length result.words ≡ length words.old }
+        ensures low { result.low ≡ 0 }
+        ensures high { result.high ≡ length words.old }
+    {
+        words.fill(0);
+        let high = words.len();
+        Arena {
+            clauses,
+            words,
+            variables,
+            low: 0,
+            high,
         }
-        if v == 0 && x != unit {
-            if unit != 0 {
-                return Look::Open;
+    }
+
+    // The arena of the given clauses, word for word.
+    pub fn new(clauses: &'a [u32], words: &'a mut [u32], variables: usize) -> Arena<'a>
+        requires well { Well false clauses.now }
+        requires within { Within clauses.now variables }
+        requires small { variables ≤ 1073741824 }
+        requires short { length clauses.now < head }
+        requires room { length clauses.now ≤ length words.old }
+        ensures clauses { result.clauses ≡ clauses.now }
+        ensures variables { result.variables ≡ variables }
+        ensures long { length result.words ≡ length words.old }
+        ensures low { result.low ≤ length clauses.now }
+        ensures high { result.high ≡ length result.words }
+    {
+        let mut arena = Arena::empty(clauses, words, variables);
+        let mut start = 0;
+        for (i, x) in clauses.iter().enumerate() {
+            if *x == 0 {
+                arena.store(&clauses[start..i]);
+                start = i + 1;
             }
-            unit = x;
         }
-    }
-    if unit == 0 {
-        Look::Conflict
-    } else {
-        Look::Unit(Literal(unit))
+        arena
     }
 }
 
-// Stores a clause that follows at the bottom of the gap, and gives the new bottom. The literals are
-// written first and the header last, so that no header ever stands before words that are no clause.
-pub fn store(
-    clauses: &[u32],
-    m: usize,
-    arena: &mut [u32],
-    low: usize,
-    high: usize,
-    lits: &[u32],
-) -> usize
-    requires arena { Arena clauses.now arena.old m low high }
-    requires clause { Clause clauses.now lits.now m 0 (length lits.now) }
-    requires room { low + 1 + length lits.now ≤ high }
-    requires short { length lits.now < head }
-    ensures arena { Arena clauses.now arena.new m result high }
-    ensures low { result ≡ low + 1 + length lits.now }
-    ensures header { Header arena.new low }
-{
-    let n = lits.len();
-    for k in 0..n {
-        arena[low + 1 + k] = lits[k];
+impl Arena<'_> {
+    // How many words there are.
+    pub fn len(&self) -> usize
+        ensures { result ≡ length self.now.words }
+    {
+        self.words.len()
     }
-    arena[low] = HEADER + n as u32;
-    low + 1 + n
-}
 
-// Puts the given clauses into the arena, word for word.
-pub fn load(clauses: &[u32], m: usize, arena: &mut [u32]) -> usize
-    requires well { Well false clauses.now }
-    requires within { Within clauses.now m }
-    requires small { m ≤ 1073741824 }
-    requires short { length clauses.now < head }
-    requires room { length clauses.now ≤ length arena.old }
-    requires free { (k : ℕ) → k < length arena.old → slice_index arena.old k ≡ 0 }
-    ensures arena { Arena clauses.now arena.new m result (length arena.old) }
-    ensures low { result ≤ length clauses.now }
-{
-    let high = arena.len();
-    let mut start = 0;
-    let mut low = 0;
-    for i in 0..clauses.len() {
-        if clauses[i] == 0 {
-            low = store(clauses, m, arena, low, high, &clauses[start..i]);
-            start = i + 1;
+    // Where the gap begins, and a clause would be stored.
+    pub fn end(&self) -> usize
+        ensures { result ≡ self.now.low }
+    {
+        self.low
+    }
+
+    // How many words the gap has.
+    pub fn room(&self) -> usize
+        ensures { result ≡ self.now.high - self.now.low }
+    {
+        self.high - self.low
+    }
+
+    // Whether a clause's header stands at c.
+    pub fn is_header(&self, c: usize) -> bool
+        ensures { MatchBool result (Header self.now.words c) (Header self.now.words c → ⊥) }
+    {
+        c < self.words.len() && self.words[c] >= HEADER
+    }
+
+    // How many literals the clause whose header stands at c has.
+    pub fn clause_length(&self, c: usize) -> usize
+        requires { Header self.now.words c }
+        ensures { result ≡ size self.now.words c }
+    {
+        let words: &[u32] = self.words;
+        (words[c] - HEADER) as usize
+    }
+
+    // The literals of the clause whose header stands at c, if one does.
+    pub fn clause(&self, c: usize) -> Option<&[u32]>
+        ensures { MatchOption result (Header self.now.words c → ⊥) (λ literals. Header self.now.words c × (length literals.now ≡ size self.now.words c) × Follows self.now.clauses self.now.variables literals.now) }
+    {
+        let words: &[u32] = self.words;
+        if !self.is_header(c) {
+            return None;
         }
+        let end = c + 1 + self.clause_length(c);
+        Some(&words[c + 1..end])
     }
-    low
-}
 
-// Exchanges two literals of a clause, the ones at the places p and q.
-pub fn swap_literals(
-    clauses: &[u32],
-    m: usize,
-    arena: &mut [u32],
-    low: usize,
-    high: usize,
-    c: usize,
-    p: usize,
-    q: usize,
-)
-    requires arena { Arena clauses.now arena.old m low high }
-    requires header { Header arena.old c }
-    requires p { (c < p) × (p ≤ c + size arena.old c) }
-    requires q { (c < q) × (q ≤ c + size arena.old c) }
-    ensures arena { Arena clauses.now arena.new m low high }
-    ensures header { slice_index arena.new c ≡ slice_index arena.old c }
-{
-    let x = arena[p];
-    arena[p] = arena[q];
-    arena[q] = x;
-}
-
-// Moves the first clause after the gap down to the gap's bottom, and gives the new bottom; the gap
-// then ends where the clause ended. Each word is read before it is written over, since low ≤ c.
-pub fn move_down(clauses: &[u32], m: usize, arena: &mut [u32], low: usize, c: usize) -> usize
-    requires arena { Arena clauses.now arena.old m low c }
-    requires header { Header arena.old c }
-    ensures arena { Arena clauses.now arena.new m result (c + 1 + size arena.old c) }
-    ensures low { result ≡ low + 1 + size arena.old c }
-    ensures header { slice_index arena.new low ≡ slice_index arena.old c }
-{
-    let header = arena[c];
-    let n = (header - HEADER) as usize;
-    arena[c] = 0;
-    for k in 0..n {
-        arena[low + 1 + k] = arena[c + 1 + k];
+    // Stores a clause that follows at the bottom of the gap, and gives its place. The literals are
+    // written first and the header last, so that no header ever stands before words that are no clause.
+    pub fn store(&mut self, literals: &[u32]) -> usize
+        requires clause { Follows self.old.clauses self.old.variables literals.now }
+        requires room { self.old.low + 1 + length literals.now ≤ self.old.high }
+        requires short { length literals.now < head }
+        ensures place { result ≡ self.old.low }
+        ensures header { Header self.new.words result }
+        ensures low { self.new.low ≡ self.old.low + 1 + length literals.now }
+        ensures high { self.new.high ≡ self.old.high }
+        ensures clauses { self.new.clauses ≡ self.old.clauses }
+        ensures variables { self.new.variables ≡ self.old.variables }
+        ensures long { length self.new.words ≡ length self.old.words }
+    {
+        let place = self.low;
+        let n = literals.len();
+        self.words[place + 1..place + 1 + n].copy_from_slice(literals);
+        self.words[place] = HEADER + n as u32;
+        self.low = place + 1 + n;
+        place
     }
-    arena[low] = header;
-    low + 1 + n
-}
 
-// Drops the first clause after the gap, which then ends where the clause ended.
-pub fn drop_clause(clauses: &[u32], m: usize, arena: &mut [u32], low: usize, c: usize)
-    requires arena { Arena clauses.now arena.old m low c }
-    requires header { Header arena.old c }
-    ensures arena { Arena clauses.now arena.new m low (c + 1 + size arena.old c) }
-    ensures cleared { slice_index arena.new c ≡ 0 }
-{
-    arena[c] = 0;
+    // Exchanges two literals of the clause at c, the ones at the places p and q.
+    pub fn swap_literals(&mut self, c: usize, p: usize, q: usize)
+        requires header { Header self.old.words c }
+        requires p { (c < p) × (p ≤ c + size self.old.words c) }
+        requires q { (c < q) × (q ≤ c + size self.old.words c) }
+        ensures header { slice_index self.new.words c ≡ slice_index self.old.words c }
+        ensures low { self.new.low ≡ self.old.low }
+        ensures high { self.new.high ≡ self.old.high }
+        ensures clauses { self.new.clauses ≡ self.old.clauses }
+        ensures variables { self.new.variables ≡ self.old.variables }
+        ensures long { length self.new.words ≡ length self.old.words }
+    {
+        self.words.swap(p, q);
+    }
 }

@@ -3,52 +3,44 @@
 // may name anything; one that helps nothing is passed over. A log of learned clauses is checked so,
 // and so are clauses that were kept outside.
 ghost use Rattle.std.specs.Prelude.{◌≡◌, ℕ, ◌<◌, T, length, slice_index};
-ghost use Rattle.kernel.specs.Arena.{Arena, Clause};
+ghost use Rattle.kernel.specs.Arena.{Follows};
 ghost use Rattle.kernel.specs.Hints.{Denied};
 
-use crate::arena::{HEADER, Look, examine, is_header};
+use crate::arena::{Arena, HEADER};
+use crate::look::{Look, examine};
 use clauses::Literal;
 
 // Sets the negations of the literals, in values that are all free; false where a word is no literal,
 // or two literals are opposite.
-fn deny(temp: &mut [u32], lits: &[u32]) -> bool
-    requires { (k : ℕ) → k < length temp.old → slice_index temp.old k ≡ 0 }
-    ensures { T result → Denied temp.new lits.now (length lits.now) }
+fn deny(values: &mut [u32], literals: &[u32]) -> bool
+    requires { (k : ℕ) → k < length values.old → slice_index values.old k ≡ 0 }
+    ensures { T result → Denied values.new literals.now (length literals.now) }
 {
-    for w in lits {
-        let y = *w;
-        let h = (y / 2) as usize;
-        if y < 2 || y >= HEADER || h >= temp.len() || temp[h] == y {
+    for code in literals {
+        let y = Literal(*code);
+        let v = y.variable().index();
+        if y.0 < 2 || y.0 >= HEADER || v >= values.len() || values[v] == y.0 {
             return false;
         }
-        temp[h] = Literal(y).negated().0;
+        values[v] = y.negated().0;
     }
     true
 }
 
-// Whether the hints show that the literals are a clause that follows.
-pub fn by_hints(
-    clauses: &[u32],
-    arena: &[u32],
-    low: usize,
-    high: usize,
-    temp: &mut [u32],
-    lits: &[u32],
-    hints: &[u32],
-) -> bool
-    requires arena { Arena clauses.now arena.now (length temp.old) low high }
-    requires clean { (k : ℕ) → k < length temp.old → slice_index temp.old k ≡ 0 }
-    ensures { T result → Clause clauses.now lits.now (length temp.old) 0 (length lits.now) }
+// Whether the hints, places of the arena, show that the literals are a clause that follows.
+pub fn by_hints(arena: &Arena, values: &mut [u32], literals: &[u32], hints: &[u32]) -> bool
+    requires variables { arena.now.variables ≡ length values.old }
+    requires clean { (k : ℕ) → k < length values.old → slice_index values.old k ≡ 0 }
+    ensures { T result → Follows arena.now.clauses (length values.old) literals.now }
 {
-    if !deny(temp, lits) {
+    if !deny(values, literals) {
         return false;
     }
-    for w in hints {
-        let c = *w as usize;
-        if is_header(arena, c) {
-            match examine(clauses, temp, arena, low, high, c) {
+    for hint in hints {
+        if let Some(clause) = arena.clause(*hint as usize) {
+            match examine(arena.clauses, values, clause) {
                 Look::Open => {}
-                Look::Unit(x) => temp[(x.0 / 2) as usize] = x.0,
+                Look::Unit(x) => values[x.variable().index()] = x.0,
                 Look::Conflict => return true,
             }
         }

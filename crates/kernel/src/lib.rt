@@ -3,18 +3,17 @@
 #![tactic(auto)]
 
 mod arena;
+mod compaction;
 mod hints;
+mod look;
+mod marks;
 mod plain;
-mod resolve;
 mod scan;
 mod trail;
 
-pub use arena::{
-    HEADER, Look, clause_length, drop_clause, examine, is_header, load, move_down, store,
-    swap_literals,
-};
+pub use arena::{Arena, HEADER};
 pub use hints::by_hints;
+pub use look::Look;
+pub use marks::Marks;
 pub use plain::search_plain;
-pub use resolve::{Absorbed, absorb, cover, drop_level_zero};
-pub use scan::{clashes, free_literal};
-pub use trail::{decide, first_decision, flip, imply, is_false, last_decision, retreat};
+pub use trail::Trail;

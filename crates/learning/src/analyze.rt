@@ -4,105 +4,67 @@
 // literal of the last level is resolved with its reason, until one is left: the first unique
 // implication point. Each step is one of the kernel's, which keeps that the marked values are to
 // blame; what is chosen here, and when it stops, is guidance.
-ghost use Rattle.std.specs.Prelude.{ℕ, ◌+◌, ◌<◌, ◌≤◌, length, IfSome};
-ghost use Rattle.kernel.specs.Arena.{Header};
-ghost use Rattle.kernel.specs.Resolve.{Blamed};
-ghost use Rattle.learning.specs.Steps.{Whole};
+ghost use Rattle.std.specs.Prelude.{◌≡◌, IfSome};
+ghost use Rattle.kernel.specs.Resolve.{Blamed, Due};
 
-use crate::guide::Guide;
+use crate::search::Search;
 use clauses::Literal;
-use kernel::{HEADER, absorb, is_header};
 
-// How many variables are marked, and the place of the unique implication point.
-#[derive(Clone, Copy)]
-pub(crate) struct Blame {
-    pub(crate) marks: usize,
-    pub(crate) place: usize,
-}
-
-// The variables of the clause at c that are not marked yet take part in the conflict.
-fn bump_clause(g: &mut Guide, seen: &[u32], arena: &[u32], c: usize) {
-    for p in c..arena.len() {
-        let x = arena[p];
-        if p > c && x >= HEADER || x == 0 {
-            break;
-        }
-        let v = Literal(x).variable();
-        if x < HEADER && v.index() < seen.len() && seen[v.index()] == 0 {
-            g.order.bump(v);
+impl Search<'_> {
+    // The variables of the clause at c that are not marked yet take part in the conflict.
+    fn bump(&mut self, c: usize)
+        ensures trail { self.new.trail ≡ self.old.trail }
+        ensures marks { self.new.marks ≡ self.old.marks }
+    {
+        if let Some(literals) = self.arena.clause(c) {
+            for code in literals {
+                let v = Literal(*code).variable();
+                if !self.marks.contains(v) {
+                    self.guide.order.bump(v);
+                }
+            }
         }
     }
-}
 
-// Marks what is to blame for the clause at c being false, back to the first unique implication point
-// of the level that begins at place `level`.
-pub(crate) fn find_blame(
-    clauses: &[u32],
-    values: &[u32],
-    trail: &[u32],
-    kinds: &[u32],
-    n: usize,
-    level: usize,
-    arena: &[u32],
-    low: usize,
-    seen: &mut [u32],
-    g: &mut Guide,
-    c: usize,
-) -> Option<Blame>
-    requires whole { Whole clauses.now values.now trail.now kinds.now seen.old arena.now n low }
-    requires header { Header arena.now c }
-    ensures { IfSome result (λ b. Blamed clauses.now values.now seen.new b.marks) }
-{
-    bump_clause(g, seen, arena, c);
-    let Some(first) = absorb(
-        clauses,
-        values,
-        arena,
-        low,
-        arena.len(),
-        seen,
-        0,
-        c,
-        Literal(0),
-        g.phases.places(),
-        level,
-    ) else {
-        return None;
-    };
-    let mut marks = first.marks;
-    let mut open = first.current;
-    let mut p = n;
-    while p > level {
-        p -= 1;
-        let x = Literal(trail[p]);
-        if seen[x.variable().index()] != 0 {
-            let kind = kinds[p];
-            if kind == 0 || open <= 1 {
-                return Some(Blame { marks, place: p });
-            }
-            let r = (kind - 1) as usize;
-            if !is_header(arena, r) {
-                return None;
-            }
-            bump_clause(g, seen, arena, r);
-            let Some(more) = absorb(
-                clauses,
-                values,
-                arena,
-                low,
-                arena.len(),
-                seen,
-                marks,
-                r,
-                x,
-                g.phases.places(),
-                level,
-            ) else {
-                return None;
-            };
-            marks = more.marks;
-            open = (open - 1).saturating_add(more.current);
-        }
+    // Marks the variables of the clause at c, in the place of `resolved` if that is there. Gives how
+    // many it marked that stand on the trail at place `from` or after it.
+    pub(crate) fn absorb(
+        &mut self,
+        c: usize,
+        resolved: Option<Literal>,
+        from: usize,
+    ) -> Option<usize>
+        requires { IfSome resolved (λ x. Due self.old.trail.clauses self.old.trail.values self.old.marks x.0) }
+        ensures trail { self.new.trail ≡ self.old.trail }
+        ensures blamed { IfSome result (λ _. Blamed self.new.trail.clauses self.new.trail.values self.new.marks) }
+    {
+        let literals = self.arena.clause(c)?;
+        let places = self.guide.phases.places();
+        self.marks.absorb(&self.trail, literals, resolved, places, from)
     }
-    Some(Blame { marks, place: p })
+
+    // Marks what is to blame for the clause at c being false, back to the first unique implication
+    // point of the level that begins at place `level`, and gives the place of that.
+    pub(crate) fn find_blame(&mut self, c: usize, level: usize) -> Option<usize>
+        ensures trail { self.new.trail ≡ self.old.trail }
+        ensures blamed { IfSome result (λ _. Blamed self.new.trail.clauses self.new.trail.values self.new.marks) }
+    {
+        self.bump(c);
+        let mut open = self.absorb(c, None, level)?;
+        for p in (level..self.trail.len()).rev() {
+            let x = self.trail.literal(p);
+            if self.marks.contains(x.variable()) {
+                let Some(reason) = self.trail.reason(p) else {
+                    return Some(p);
+                };
+                if open <= 1 {
+                    return Some(p);
+                }
+                self.bump(reason);
+                let more = self.absorb(reason, Some(x), level)?;
+                open = (open - 1).saturating_add(more);
+            }
+        }
+        Some(level)
+    }
 }

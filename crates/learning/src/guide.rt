@@ -1,6 +1,6 @@
 // All that guides the search. Nothing here has an invariant: what is read from it is tested.
-use clauses::Literal;
 use guidance::{Occurrences, Order, Phases, Policy};
+use kernel::Trail;
 
 #[derive(Drop)]
 pub struct Guide<'a> {
@@ -10,16 +10,18 @@ pub struct Guide<'a> {
     pub policy: Policy,
     // Where the given clauses end in the arena: these are never forgotten.
     pub given: usize,
+    // The place on the trail from which on literals are to be propagated.
+    pub propagated: usize,
 }
 
-// The literals of the trail from place `keep` on are about to be freed: their values are saved, and
-// their variables wait to be decided again.
-pub fn release(g: &mut Guide, trail: &[u32], keep: usize, n: usize) {
-    for p in keep..n {
-        if p < trail.len() {
-            let x = Literal(trail[p]);
-            g.phases.save(x);
-            g.order.insert(x.variable());
+impl Guide<'_> {
+    // The literals of the trail from place `keep` on are about to be freed: their values are saved, and
+    // their variables wait to be decided again.
+    pub fn release(&mut self, trail: &Trail, keep: usize) {
+        for p in keep..trail.len() {
+            let x = trail.literal(p);
+            self.phases.save(x);
+            self.order.insert(x.variable());
         }
     }
 }

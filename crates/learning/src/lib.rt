@@ -7,7 +7,9 @@ mod guide;
 mod lesson;
 mod minimize;
 mod propagation;
+mod search;
 
-pub use guide::{Guide, release};
-pub use lesson::{Lesson, jump, learn};
-pub use propagation::{Run, propagate, settle};
+pub use guide::Guide;
+pub use lesson::Lesson;
+pub use propagation::Conflict;
+pub use search::Search;

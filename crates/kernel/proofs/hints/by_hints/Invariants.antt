@@ -1,5 +1,5 @@
 use Rattle.kernel.proofs.Hinting.{Hinted}
 use Rattle.kernel.proofs.hints.by_hints.Given as goal
 
-abbrev pub invariant-loop-w : goal.invariant-loop-w
-invariant-loop-w l = Hinted l.clauses l.temp l.lits
+abbrev pub invariant-loop-hint : goal.invariant-loop-hint
+invariant-loop-hint l = Hinted l.arena.clauses l.values l.literals

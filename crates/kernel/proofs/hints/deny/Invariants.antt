@@ -1,5 +1,5 @@
 use Rattle.kernel.specs.Hints.{Denied}
 use Rattle.kernel.proofs.hints.deny.Given as goal
 
-abbrev pub invariant-loop-w : goal.invariant-loop-w
-invariant-loop-w l = Denied l.temp l.lits l.w-index
+abbrev pub invariant-loop-code : goal.invariant-loop-code
+invariant-loop-code l = Denied l.values l.literals l.code-index

@@ -1,9 +1,9 @@
-use Rattle.std.proofs.Common.{◌-◌, ◌^◌, length, take}
-use Rattle.kernel.specs.Trail.{State, rank}
+use Rattle.std.proofs.Common.{◌≡◌, ◌-◌, ◌^◌, length}
+use Rattle.kernel.specs.Trail.{rank_of}
 use Rattle.kernel.proofs.plain.search_plain.Given as goal
 
 abbrev pub invariant-turns : goal.invariant-turns
-invariant-turns l = State l.clauses l.values l.trail l.kinds l.n
+invariant-turns l = l.trail.clauses ≡ l.initial.trail.clauses
 
 abbrev pub decreases-turns : goal.decreases-turns
-decreases-turns l = 3 ^ length l.initial.values - rank (length l.initial.values) (take l.n l.kinds)
+decreases-turns l = 3 ^ length l.trail.values - rank_of l.trail

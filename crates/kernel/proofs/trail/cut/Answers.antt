@@ -1,6 +1,6 @@
-use Rattle.std.proofs.Common.{arith}
-use Rattle.kernel.proofs.Trails.{popped_at}
+use Rattle.std.proofs.Common.{arith, rules}
+use Rattle.kernel.proofs.Trails.{popped_back}
 use Rattle.kernel.proofs.trail.cut.Goals as goal
 
-pub loop-i-preserved : goal.loop-i-preserved
-loop-i-preserved c = (popped_at _ _ _ c.index.result (omega arith) (omega arith) c.loop-i.invariant.0, omega arith)
+pub loop-x-preserved : goal.loop-x-preserved
+loop-x-preserved c = popped_back _ _ _ _ _ _ _ c.in-Some.ensures.steps c.loop-x.invariant.0 (omega arith) c.loop-x.invariant.1

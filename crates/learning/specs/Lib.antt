@@ -1,2 +1,0 @@
--- What propagation and learning promise.
-pub mod Steps
