@@ -110,7 +110,8 @@ impl<'a> Trail<'a> {
 impl Trail<'_> {
     // How many literals are set.
     pub fn len(&self) -> usize
-        ensures { result ≡ length self.now.kinds }
+        ensures len { result ≡ length self.now.kinds }
+        ensures few { result ≤ length self.now.values }
     {
         self.len
     }

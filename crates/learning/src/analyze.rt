@@ -17,12 +17,7 @@ impl Search<'_> {
         ensures marks { self.new.marks ≡ self.old.marks }
     {
         if let Some(literals) = self.arena.clause(c) {
-            for code in literals {
-                let v = Literal(*code).variable();
-                if !self.marks.contains(v) {
-                    self.guide.order.bump(v);
-                }
-            }
+            self.guide.bump(literals, &self.marks);
         }
     }
 

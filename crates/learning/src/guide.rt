@@ -1,6 +1,7 @@
 // All that guides the search. Nothing here has an invariant: what is read from it is tested.
+use clauses::Literal;
 use guidance::{Occurrences, Order, Phases, Policy};
-use kernel::Trail;
+use kernel::{Marks, Trail};
 
 #[derive(Drop)]
 pub struct Guide<'a> {
@@ -15,6 +16,16 @@ pub struct Guide<'a> {
 }
 
 impl Guide<'_> {
+    // The variables of a clause that are not marked yet take part in a conflict.
+    pub(crate) fn bump(&mut self, literals: &[u32], marks: &Marks) {
+        for code in literals {
+            let v = Literal(*code).variable();
+            if !marks.contains(v) {
+                self.order.bump(v);
+            }
+        }
+    }
+
     // The literals of the trail from place `keep` on are about to be freed: their values are saved, and
     // their variables wait to be decided again.
     pub fn release(&mut self, trail: &Trail, keep: usize) {

@@ -1,6 +1,6 @@
 // The state of a search: the kernel's parts, which are about the same clauses and variables, and what
 // guides them.
-ghost use Rattle.std.specs.Prelude.{◌≡◌, ℕ, ◌<◌, length, slice_index};
+ghost use Rattle.std.specs.Prelude.{◌≡◌, length};
 
 use crate::guide::Guide;
 use kernel::{Arena, Marks, Trail};
@@ -17,5 +17,4 @@ pub struct Search<'a> {
     ghost variables: { arena.variables ≡ length trail.values },
     ghost full: { arena.high ≡ length arena.words },
     ghost long: { length marks ≡ length trail.values },
-    ghost clean: { (k : ℕ) → k < length marks → slice_index marks k ≡ 0 },
 }
