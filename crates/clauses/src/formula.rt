@@ -1,5 +1,5 @@
 // Clauses that were read: what is asked of the numbers before they are solved, as a fact of a type.
-ghost use Rattle.std.specs.Prelude.{◌≡◌, ◌+◌, false, MatchResult};
+ghost use Rattle.std.specs.Prelude.{◌≡◌, ℕ, ◌+◌, ◌^◌, ◌<◌, false, MatchResult, slice_index};
 ghost use Rattle.clauses.specs.Flat.{Well, Within};
 ghost use Rattle.clauses.specs.Formula.{Refused, Well-prop};
 
@@ -13,6 +13,7 @@ pub struct Formula<'a> {
     pub variables: usize,
     ghost well: { Well false numbers.now } by { Well-prop false numbers.now },
     ghost within: { Within numbers.now (variables + 1) },
+    ghost words: { (k : ℕ) → slice_index numbers.now k < 2 ^ 32 },
 }
 
 impl<'a> Formula<'a> {

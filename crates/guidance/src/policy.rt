@@ -7,7 +7,7 @@
 // How often a search had to do without its guidance: a conflict that propagation missed, an analysis
 // of a conflict that led to no clause, and a variable that the order had lost. None of these changes an
 // answer; tests see that they don't happen.
-#[derive(Clone, Copy)]
+#[derive(Clone, Copy, PartialEq, Eq, Debug, Default)]
 pub struct Fallbacks {
     pub missed_conflicts: u32,
     pub failed_analyses: u32,
@@ -36,11 +36,7 @@ impl Policy {
             fresh: 0,
             most: 1000,
             full: false,
-            fallbacks: Fallbacks {
-                missed_conflicts: 0,
-                failed_analyses: 0,
-                lost_variables: 0,
-            },
+            fallbacks: Fallbacks::default(),
         }
     }
 

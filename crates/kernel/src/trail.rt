@@ -6,7 +6,7 @@
 // Every implied literal is true in each model in which the literals before it are. That is all that
 // is kept of reasons, so no clause that was used has to stay. A solver ends since each step makes
 // the trail's number to the base 3 grow: 2 for an implied literal, 1 for a decision, 0 for none.
-ghost use Rattle.std.specs.Prelude.{◌≡◌, ℕ, ◌+◌, ◌/◌, ◌<◌, ◌≤◌, ◌↔◌, [], length, MatchBool, MatchOption, IsNone, Bool, true, ◌≢◌, take, slice_index, slice_set};
+ghost use Rattle.std.specs.Prelude.{◌≡◌, ℕ, ◌+◌, ◌/◌, ◌<◌, ◌≤◌, ◌↔◌, [], length, MatchBool, MatchOption, IsNone, T, Bool, true, ◌≢◌, take, slice_index, slice_set};
 ghost use Rattle.clauses.specs.Flat.{lit_truth, Hopeless, Model, Within};
 ghost use Rattle.kernel.specs.Arena.{Follows};
 ghost use Rattle.kernel.specs.Looks.{Looks};
@@ -169,6 +169,14 @@ impl Trail<'_> {
         ensures { MatchBool result (False self.now.values x.0) (False self.now.values x.0 → ⊥) }
     {
         is_false(self.values, x)
+    }
+
+    // Whether a literal's variable is not set.
+    pub fn is_free(&self, x: Literal) -> bool
+        ensures { T result → Free self.now.values x.0 }
+    {
+        let h = x.variable().index();
+        x.0 >= 2 && h < self.values.len() && self.values[h] == 0
     }
 
     // Looks at a clause that follows.

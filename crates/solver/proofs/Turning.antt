@@ -1,33 +1,20 @@
--- What the search keeps from turn to turn.
-use Rattle.std.proofs.Common.{◌≡◌, ℕ, ◌≤◌, List, length, take, sym, ◌∙◌, subst, arith}
-use Rattle.kernel.specs.Arena.{Arena}
-use Rattle.kernel.specs.Trail.{State, rank}
-use Rattle.kernel.proofs.Budgets.{left_stay}
-use Rattle.solver.specs.declared.turn.Turn.{Turn}
-use Rattle.solver.specs.declared.turn.Turn.TheVariants.{Never, Met, Again}
-use Rattle.learning.specs.Steps.{Whole}
-use Rattle.solver.specs.Steps.{Turns}
+-- What a turn of the search comes to, from what its steps promise.
+use Rattle.std.proofs.Common.{◌≡◌, ℕ, ◌-◌, ◌<◌, Option, Some, None, length, ◌∙◌, arith}
+use Rattle.clauses.specs.declared.solved.Answer.{Answer}
+use Rattle.clauses.specs.declared.solved.Answer.TheVariants.{Met, Never}
+use Rattle.kernel.specs.Trail.{Trailed, Further, Went}
+use Rattle.kernel.proofs.Budgets.{left_further, left_over, left_went}
+use Rattle.solver.specs.Steps.{Turned}
 
--- whole states, with other terms for what they are of
-pub whole_as : (ws vs ts ks seen seen' words words' : List ℕ) (n low : ℕ) → seen' ≡ seen → words' ≡ words → Whole ws vs ts ks seen words n low → Whole ws vs ts ks seen' words' n low
-whole_as ws vs ts ks seen seen' words words' n low es ew h = subst (λ s. Whole ws vs ts ks s words' n low) (sym es) (subst (λ d. Whole ws vs ts ks seen d n low) (sym ew) h)
+-- a step on
+pub turned_further : (t t' : Trailed) (b : ℕ) → Further t t' → Turned t b t' b None
+turned_further t t' b f = record { clauses = f.clauses; long = f.long; turn = left_further t t' b f }
 
--- the trail has changed, and neither the marks nor the clauses
-pub whole_on : (ws vs us ts rs ks ks' seen words : List ℕ) (n m low : ℕ) → length us ≡ length vs → Whole ws vs ts ks seen words n low → State ws us rs ks' m → Whole ws us rs ks' seen words m low
-whole_on ws vs us ts rs ks ks' seen words n m low e h s =
-    record {
-      state = s;
-      arena = subst (λ z. Arena ws words z low (length words)) (sym e) h.arena;
-      long = h.long ∙ sym e;
-      clean = λ k l. h.clean k (omega arith);
-    }
+-- any trail, for one of the budget
+pub turned_over : (t t' : Trailed) (b b' : ℕ) → t'.clauses ≡ t.clauses → length t'.values ≡ length t.values → 0 < b → b' ≡ b - 1 → Turned t b t' b' None
+turned_over t t' b b' c l some e = record { clauses = c; long = l; turn = rw e (left_over t t' b l some) }
 
 -- a turn after steps on
-pub turns_then : (ws vs us ts ks ks' ks'' seen words : List ℕ) (n m b : ℕ) (r : Turn) → length us ≡ length vs → rank (length vs) (take n ks) ≤ rank (length vs) (take m ks') → Turns ws us ts ks' ks'' seen words m b r → Turns ws us ts ks ks'' seen words n b r
-turns_then ws vs us ts ks ks' ks'' seen words n m b Never e more h = h
-turns_then ws vs us ts ks ks' ks'' seen words n m b Met e more h = h
-turns_then ws vs us ts ks ks' ks'' seen words n m b (Again p) e more h =
-    record {
-      whole = h.whole;
-      less = omega (arith, h.less, left_stay (length us) ks ks' n m b (subst (λ z. rank z (take n ks) ≤ rank z (take m ks')) (sym e) more));
-    }
+pub turned_after : (t t' t'' : Trailed) (b b' : ℕ) (r : Option Answer) → Went t t' → Turned t' b t'' b' r → Turned t b t'' b' r
+turned_after t t' t'' b b' None w h = record { clauses = h.clauses ∙ w.clauses; long = h.long ∙ w.long; turn = omega (arith, h.turn, left_went t t' b w) }
+turned_after t t' t'' b b' (Some a) w h = record { clauses = h.clauses ∙ w.clauses; long = h.long ∙ w.long; turn = h.turn }

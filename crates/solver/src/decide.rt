@@ -1,19 +1,19 @@
 // What to decide next: the most active variable that is free, set as it was last.
-ghost use Rattle.std.specs.Prelude.{IfSome};
+ghost use Rattle.std.specs.Prelude.{◌≡◌, IfSome};
 ghost use Rattle.kernel.specs.Trail.{Free};
 
 use clauses::Literal;
-use learning::Guide;
+use learning::Search;
 
 // A literal that is free, if one comes from the order.
-pub(crate) fn pick(values: &[u32], g: &mut Guide) -> Option<Literal>
-    ensures { IfSome result (λ x. Free values.now x.0) }
+pub(crate) fn pick(search: &mut Search) -> Option<Literal>
+    ensures trail { search.new.trail ≡ search.old.trail }
+    ensures free { IfSome result (λ x. Free search.new.trail.values x.0) }
 {
-    for _turn in 0..values.len() {
-        let v = g.order.pop()?;
-        let x = g.phases.literal(v);
-        let i = x.variable().index();
-        if x.0 >= 2 && i < values.len() && values[i] == 0 {
+    for _turn in 0..search.trail.values().len() {
+        let v = search.guide.order.pop()?;
+        let x = search.guide.phases.literal(v);
+        if search.trail.is_free(x) {
             return Some(x);
         }
     }

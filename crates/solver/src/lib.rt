@@ -9,7 +9,7 @@ mod answer;
 mod decide;
 mod reduce;
 mod restart;
-mod search;
-mod turn;
+mod solver;
+
 
 pub use answer::{Counted, find_model, solve, solve_counted};

@@ -4,21 +4,21 @@
 // most levels when they were learned go first, about half of them; those with one or two stay. The
 // rest move down, and the occurrence lists are made anew. Forgetting takes no clause from the given
 // ones and puts none to them, so the models stay the same.
-ghost use Rattle.std.specs.Prelude.{◌+◌, ◌<◌, ◌≤◌, length};
-ghost use Rattle.kernel.specs.Arena.{Arena};
+ghost use Rattle.std.specs.Prelude.{◌≡◌, length};
 
-use kernel::{clause_length, drop_clause, is_header, move_down};
-use learning::Guide;
+use guidance::Occurrences;
+use kernel::Arena;
+use learning::Search;
 
 // Scores are counted up to this one.
 const SCORES: usize = 64;
 
 // How many learned clauses have each score.
-fn count_scores(g: &Guide, arena: &[u32], low: usize) -> [u32; 64] {
-    let mut counts = [0u32; 64];
-    for c in g.given..low {
-        if is_header(arena, c) {
-            let score = (g.lists.score(c) as usize).min(SCORES - 1);
+fn count_scores(arena: &Arena, lists: &Occurrences, given: usize) -> [u32; SCORES] {
+    let mut counts = [0u32; SCORES];
+    for c in given..arena.end() {
+        if arena.is_header(c) {
+            let score = (lists.score(c) as usize).min(SCORES - 1);
             counts[score] = counts[score].saturating_add(1);
         }
     }
@@ -27,19 +27,16 @@ fn count_scores(g: &Guide, arena: &[u32], low: usize) -> [u32; 64] {
 
 // The largest score to keep: that of the better half, at least 2. Where there was no room and that
 // would free less than a quarter, all are to go.
-fn score_limit(counts: &[u32; 64], full: bool) -> u32 {
-    let mut all: u32 = 0;
-    for count in counts {
-        all = all.saturating_add(*count);
-    }
+fn score_limit(counts: &[u32; SCORES], full: bool) -> u32 {
+    let all = counts.iter().fold(0u32, |sum, count| sum.saturating_add(*count));
     let mut kept: u32 = 0;
-    for score in 0..SCORES as u32 {
-        let more = kept.saturating_add(counts[score as usize]);
+    for (score, count) in counts.iter().enumerate() {
+        let more = kept.saturating_add(*count);
         if score > 2 && more > all / 2 {
             return if full && kept > all - all / 4 {
                 0
             } else {
-                score - 1
+                score as u32 - 1
             };
         }
         kept = more;
@@ -47,67 +44,37 @@ fn score_limit(counts: &[u32; 64], full: bool) -> u32 {
     if full { 0 } else { 2 }
 }
 
-// Where the clauses end after some were forgotten, and how many learned ones are left.
-#[derive(Clone, Copy)]
-struct Compacted {
-    low: usize,
-    learned: u32,
-}
-
-// Forgets the learned clauses whose score is over the limit, and moves the others down.
-fn compact(clauses: &[u32], m: usize, arena: &mut [u32], g: &mut Guide, limit: u32) -> Compacted
-    requires { Arena clauses.now arena.old m 0 0 }
-    ensures { Arena clauses.now arena.new m result.low (length arena.new) }
+// Forgets the learned clauses whose score is over the limit, and gives how many are left. The first
+// `given` words of the arena hold the given clauses.
+fn compact(arena: &mut Arena, lists: &mut Occurrences, given: usize, limit: u32) -> u32
+    ensures high { arena.new.high ≡ length arena.new.words }
+    ensures clauses { arena.new.clauses ≡ arena.old.clauses }
+    ensures variables { arena.new.variables ≡ arena.old.variables }
 {
-    let mut low = 0;
     let mut learned: u32 = 0;
-    let mut c = 0;
-    while c < arena.len() {
-        if is_header(arena, c) {
-            let next = c + 1 + clause_length(arena, c);
-            let score = g.lists.score(c);
-            if c < g.given || score <= limit {
-                if c >= g.given {
-                    learned = learned.saturating_add(1);
-                }
-                g.lists.set_score(low, score);
-                low = move_down(clauses, m, arena, low, c);
-            } else {
-                drop_clause(clauses, m, arena, low, c);
-            }
-            c = next;
-        } else {
-            c += 1;
+    arena.retain(|from, to| {
+        let score = lists.score(from);
+        let is_given = from < given;
+        let stays = is_given || score <= limit;
+        if stays {
+            lists.set_score(to, score);
         }
-    }
-    Compacted { low, learned }
+        if stays && !is_given {
+            learned = learned.saturating_add(1);
+        }
+        stays
+    });
+    learned
 }
 
-// Makes the occurrence lists of all clauses.
-pub(crate) fn attach_all(arena: &[u32], g: &mut Guide) {
-    g.lists.clear();
-    for c in 0..arena.len() {
-        if is_header(arena, c) {
-            let n = clause_length(arena, c);
-            g.lists.attach(arena, c, n);
-        }
-    }
-}
-
-// Forgets about half of the learned clauses, and gives where the clauses then end.
-pub(crate) fn reduce(
-    clauses: &[u32],
-    m: usize,
-    arena: &mut [u32],
-    low: usize,
-    g: &mut Guide,
-) -> usize
-    requires { Arena clauses.now arena.old m low (length arena.old) }
-    ensures { Arena clauses.now arena.new m result (length arena.new) }
+// Forgets about half of the learned clauses.
+pub(crate) fn reduce(search: &mut Search)
+    ensures { search.new.trail ≡ search.old.trail }
 {
-    let limit = score_limit(&count_scores(g, arena, low), g.policy.is_full());
-    let rest = compact(clauses, m, arena, g, limit);
-    attach_all(arena, g);
-    g.policy.note_reduction(rest.learned);
-    rest.low
+    let given = search.guide.given;
+    let counts = count_scores(&search.arena, &search.guide.lists, given);
+    let limit = score_limit(&counts, search.guide.policy.is_full());
+    let learned = compact(&mut search.arena, &mut search.guide.lists, given, limit);
+    search.attach_all();
+    search.guide.policy.note_reduction(learned);
 }

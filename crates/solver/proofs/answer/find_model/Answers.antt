@@ -1,23 +1,25 @@
-use Rattle.std.proofs.Common.{refl}
+use Rattle.std.proofs.Common.{◌≡◌, refl, sym, subst, rules}
 use Rattle.clauses.specs.Flat.{Hopeless}
-use Rattle.kernel.specs.Scan.{Solution}
 use Rattle.clauses.proofs.Numbered.{renamed_hopeless}
-use Rattle.clauses.proofs.Values.{written_model}
-use Rattle.solver.proofs.Solutions.{solution_model, when_true, when_false}
+use Rattle.clauses.proofs.Values.{signs_model}
+use Rattle.kernel.specs.Scan.{Solution}
+use Rattle.solver.proofs.Solutions.{solution_model}
 use Rattle.solver.proofs.answer.find_model.Goals as goal
 
-pub returns-then-outcome : goal.returns-then-outcome
-returns-then-outcome c =
-    let made = c.number_variables-count.ensures in
-    let solution = when_true (Solution c.number_variables-count.new.renamed c.search_learning-outcome.new.values) (Hopeless c.number_variables-count.new.renamed) c.search_learning-outcome.result.met c.if-outcome.true c.search_learning-outcome.ensures in
-    record {
-      map = c.number_variables-count.new.map;
-      values = c.search_learning-outcome.new.values;
-      model = written_model _ _ _ _ _ made _ _ _ c.requires.well c.write_model_words.ensures (solution_model _ _ made.well solution);
-      written = c.write_model_words.ensures;
-    }
+pub returns-in-Never : goal.returns-in-Never
+returns-in-Never g c =
+    let same : c.run-answer.new.self.search.trail.clauses ≡ c.number_variables-variables.new.renamed = search rules in
+    record { hopeless = renamed_hopeless _ _ _ _ _ c.number_variables-variables.ensures (subst Hopeless same c.in-Never.ensures.answer); same = refl }
 
-pub returns : goal.returns
-returns c =
-    let none = when_false (Solution c.number_variables-count.new.renamed c.search_learning-outcome.new.values) (Hopeless c.number_variables-count.new.renamed) c.search_learning-outcome.result.met c.if-outcome.false c.search_learning-outcome.ensures in
-    record { hopeless = renamed_hopeless _ _ _ _ _ c.number_variables-count.ensures none; same = refl }
+pub returns-in-Met : goal.returns-in-Met
+returns-in-Met g c =
+    let made = c.number_variables-variables.ensures in
+    let same : c.run-answer.new.self.search.trail.clauses ≡ c.number_variables-variables.new.renamed = search rules in
+    let met : Solution c.run-answer.new.self.search.trail.clauses c.run-answer.new.self.search.trail.values = search rules in
+    let solution = subst (λ ws. Solution ws c.values.result.now) same (subst (Solution c.run-answer.new.self.search.trail.clauses) (sym c.values.ensures.value) met) in
+    record {
+      map = c.number_variables-variables.new.map;
+      values = c.values.result.now;
+      model = signs_model _ _ _ _ _ made _ (solution_model _ _ made.well solution);
+      written = c.write_model.ensures;
+    }
