@@ -1,14 +1,14 @@
 -- The answers as numbers, for callers in other languages.
-use Rattle.std.specs.Prelude.{◌≡◌, List, ℕ}
-use Rattle.clauses.specs.declared.solved.Solved.{Solved}
-use Rattle.clauses.specs.declared.solved.Solved.TheVariants.{Met, Never, NoClauses, Small}
-use Rattle.clauses.specs.Says.{SolvedPost}
+use Rattle.std.specs.Prelude.{◌≡◌, List, ℕ, Ok, Err}
+use Rattle.clauses.specs.declared.solved.Answer.TheVariants.{Met, Never}
+use Rattle.clauses.specs.declared.solved.Refusal.TheVariants.{NoClauses, Small}
+use Rattle.clauses.specs.Says.{Solved, SolvedPost}
 
 abbrev pub code : Solved → ℕ
-code Met = 0
-code Never = 1
-code NoClauses = 2
-code Small = 3
+code (Ok Met) = 0
+code (Ok Never) = 1
+code (Err NoClauses) = 2
+code (Err Small) = 3
 
 -- the number is that of an answer that keeps the solver's promise
 pub record Answered (s : List ℕ) (w : ℕ) (m m' : List ℕ) (r : ℕ) : Type 0 where

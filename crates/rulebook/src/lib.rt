@@ -4,17 +4,17 @@
 ghost use Rattle.std.specs.Prelude.{length, ◌≡◌};
 ghost use Rattle.rulebook.specs.Codes.{Answered, code};
 
-use clauses::Solved;
+use clauses::{Answer, Refusal, Solved};
 
-// An answer as a number.
+// An answer as a number, as callers in C read it.
 fn code(solved: Solved) -> u32
     ensures { result ≡ code solved }
 {
     match solved {
-        Solved::Met => 0,
-        Solved::Never => 1,
-        Solved::NoClauses => 2,
-        Solved::Small => 3,
+        Ok(Answer::Met) => 0,
+        Ok(Answer::Never) => 1,
+        Err(Refusal::NoClauses) => 2,
+        Err(Refusal::Small) => 3,
     }
 }
 
