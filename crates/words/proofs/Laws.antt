@@ -1,9 +1,9 @@
 -- Laws of words that hold at every width.
-use Rattle.std.proofs.Common.{◌≡◌, ℕ, zero, suc, ◌+◌, ◌-◌, ◌*◌, ◌/◌, ◌%◌, ◌^◌, ◌<◌, ◌≤◌, min, max, Bool, true, false, ◌&&◌, ◌||◌, eqb, ltb, refl, ◌∙◌, ap₂, mod-lt, pow-suc, div-le_self, arith, lit<, lit≤, pow_pos}
-use native.Mathlib.Nat.{mod-le}
+use Rattle.std.proofs.Common.{◌≡◌, ℕ, zero, suc, ◌+◌, ◌-◌, ◌*◌, ◌/◌, ◌%◌, ◌^◌, ◌<◌, ◌≤◌, min, max, Bool, true, false, ◌&&◌, ◌||◌, eqb, ltb, refl, ap, ◌∙◌, subst, ap₂, mod-lt, suc-mul, pow-suc, div-le_self, arith, lit<, lit≤, pow_pos, pow-add}
+use native.Mathlib.Nat.{mod-le, mul-add-mod_self_right}
 use lib.Arith.{lt-one}
 use lib.Bits.{bit_and, bit_or, bit_xor, and_step, or_step, xor_step, differ}
-use lib.Pow.{pow-lt, ones_lt, ones_sub-lt}
+use lib.Pow.{pow-lt, mod-mod-pow, ones_lt, ones_sub-lt}
 use Rattle.words.specs.declared.UnaryOp.{UnaryOp}
 use Rattle.words.specs.declared.UnaryOp.TheVariants.{Not, Neg}
 use Rattle.words.specs.declared.BinaryOp.{BinaryOp}
@@ -23,6 +23,22 @@ bits_pos W8 = lit< tt
 bits_pos W16 = lit< tt
 bits_pos W32 = lit< tt
 bits_pos W64 = lit< tt
+
+-- a number that wrapped at 64 bits, cut to a width
+pub cut_law : (w n : ℕ) → w ≤ 64 → n % 2 ^ 64 % 2 ^ w ≡ n % 2 ^ w
+cut_law w n h =
+    let e : (64 - w) + w ≡ 64 = omega arith in
+    subst (λ k. n % 2 ^ k % 2 ^ w ≡ n % 2 ^ w) e (mod-mod-pow n (64 - w) w)
+
+-- a difference that wrapped at 64 bits, cut to a width
+pub cut_difference : (w x y : ℕ) → w ≤ 64 → y < 2 ^ w → (x + (2 ^ 64 - y)) % 2 ^ 64 % 2 ^ w ≡ (x + 2 ^ w - y) % 2 ^ w
+cut_difference w x y h l =
+    let q : ℕ = 2 ^ (64 - w) in
+    let e : (64 - w) + w ≡ 64 = omega arith in
+    let p : 2 ^ 64 ≡ q * 2 ^ w = subst (λ k. 2 ^ k ≡ 2 ^ (64 - w) * 2 ^ w) e (pow-add 2 (64 - w) w) in
+    let s : suc (q - 1) ≡ q = omega (arith, pow_pos (64 - w)) in
+    let t : x + (2 ^ 64 - y) ≡ (q - 1) * 2 ^ w + (x + 2 ^ w - y) = omega (arith, p, suc-mul (q - 1) (2 ^ w), ap (λ k. k * 2 ^ w) s) in
+    cut_law w (x + (2 ^ 64 - y)) h ∙ (ap (λ k. k % 2 ^ w) t ∙ mul-add-mod_self_right (q - 1) (2 ^ w) (x + 2 ^ w - y))
 
 -- what holds either way of a choice holds of it
 pick_both : (P : ℕ → Type 0) (b : Bool) (x y : ℕ) → P x → P y → P (pick b x y)

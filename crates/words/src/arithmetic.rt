@@ -26,6 +26,7 @@ pub fn wide_product(x: u64, y: u64) -> Product
 
 impl Word {
     // Minus the word, in two's complement.
+    #[tactic(auto, using(crate::proofs::Laws::cut_difference, crate::proofs::Laws::bits_le))]
     pub(crate) fn neg(self) -> u64
         ensures { result ≡ do1 (bits self.width) Neg self.value }
     {
@@ -35,6 +36,7 @@ impl Word {
 
 impl Operands {
     // Their sum.
+    #[tactic(auto, using(crate::proofs::Laws::cut_law, crate::proofs::Laws::bits_le))]
     pub(crate) fn add(self) -> u64
         ensures { result ≡ do2 (bits self.width) Add self.left self.right }
     {
@@ -42,6 +44,7 @@ impl Operands {
     }
 
     // The left one less the right one.
+    #[tactic(auto, using(crate::proofs::Laws::cut_difference, crate::proofs::Laws::bits_le))]
     pub(crate) fn sub(self) -> u64
         ensures { result ≡ do2 (bits self.width) Sub self.left self.right }
     {
@@ -49,6 +52,7 @@ impl Operands {
     }
 
     // Their product.
+    #[tactic(auto, using(crate::proofs::Laws::cut_law, crate::proofs::Laws::bits_le))]
     pub(crate) fn mul(self) -> u64
         ensures { result ≡ do2 (bits self.width) Mul self.left self.right }
     {

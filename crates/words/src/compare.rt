@@ -30,6 +30,7 @@ impl Operands {
 }
 
 // `x` moved up by half the range, which takes the order in two's complement to the one without sign.
+#[tactic(auto, using(crate::proofs::Laws::cut_law, crate::proofs::Laws::bits_le))]
 fn move_up(width: Width, x: u64) -> u64
     ensures { result ≡ moved (bits width) x }
 {

@@ -8,6 +8,7 @@ use crate::Operands;
 
 impl Operands {
     // The left one moved up by as many bits as the right one says.
+    #[tactic(auto, using(crate::proofs::Laws::cut_law, crate::proofs::Laws::bits_le))]
     pub(crate) fn shl(self) -> u64
         ensures { result ≡ do2 (bits self.width) Shl self.left self.right }
     {
