@@ -60,6 +60,7 @@ pub(crate) fn holds_by_trying(rule: &RuleNodes) -> Verdict
         con: [0; 16],
     };
     let mut values = [0; 102];
+    // The bound is for the proof that this ends; the turns are not counted.
     for _ in 0..u64::MAX {
         if fails_at_with_room(rule, &assignment, &mut values) {
             return Verdict::Fails(assignment);

@@ -29,7 +29,8 @@ impl Assignment {
     }
 }
 
-// Writes the value of each node's term.
+// Writes the value of each node's term. The table has a place for each node that may be, and not only
+// for those that are, since a root may be any place below 102.
 pub fn evaluate(rule: &RuleNodes, assignment: &Assignment, values: &mut [u64; 102])
     requires { assignment.now.width ≡ rule.now.width }
     ensures { (i : ℕ) (e : Term) → i < array_vec_len rule.now.nodes → Stands rule.now.nodes.items i e → slice_index values.new i ≡ eval (bits rule.now.width) (λ k. slice_index assignment.now.any k) (λ k. slice_index assignment.now.con k) e }
