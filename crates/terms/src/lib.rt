@@ -1,13 +1,15 @@
 // Terms over machine words and the rules between them, as nodes in arrays.
 #![tactic(auto)]
 
+mod assignment;
 mod evaluation;
 mod measure;
 mod node;
 mod rule;
 mod usability;
 
-pub use evaluation::{evaluate, fails_at};
+pub use assignment::Assignment;
+pub use evaluation::{evaluate, fails_at, fails_at_with_room};
 pub use node::Node;
 pub use rule::RuleNodes;
 pub use usability::{usable, weight};
