@@ -1,7 +1,8 @@
 -- Reading terms: what a step of it shows, and what a fault shows.
-use Rattle.std.proofs.Common.{◌≡◌, ℕ, zero, suc, ◌+◌, ◌^◌, ◌<◌, ◌≤◌, true, false, List, [], ◌∷◌, ◌++◌, length, get_or, set, replicate, sym, refl, ap, ◌∙◌, subst, inl, inr, append_assoc, append-nil, arith}
-use Rattle.std.proofs.lemmas.List.{length-set, length-append, get_or-set_same, get_or-set_other}
-use Rattle.std.proofs.lemmas.Bool.{and_parts, and_from, both_ways, ltb-true, lt-ltb, cases_eq}
+use Rattle.std.proofs.Common.{◌≡◌, ℕ, ◌+◌, ◌^◌, ◌<◌, ◌≤◌, true, false, List, [], ◌∷◌, ◌++◌, length, get_or, sym, refl, ap, ◌∙◌, subst, append_assoc, append-nil, arith}
+use Rattle.arrayvec.specs.ArrayVec.{array_vec_len}
+use Rattle.std.proofs.lemmas.List.{length-append, get_or_at}
+use Rattle.std.proofs.lemmas.Bool.{and_parts, and_from, both_ways, ltb-true, lt-ltb}
 use Rattle.words.specs.declared.Width.{Width}
 use Rattle.words.specs.declared.Width.TheVariants.{W8, W16, W32, W64}
 use Rattle.words.specs.Words.{bits}
@@ -23,7 +24,7 @@ use Rattle.book.specs.Scan.{rest, Found, At}
 use Rattle.book.specs.Reading.{IsNumberRead, NoNumber, Pushed, IsLeafRead, NoLeaf, IsTermRead, NoTerm, IsTermsRead, NoTerms}
 use Rattle.book.proofs.Tokens.{one_token}
 use Rattle.book.proofs.Unique.{first_same, rest_same, never_empty, head, head_writes, Begins, begins, Parts, one, two, three, parts, applied_writes, applied_ok, applied_ops, list_begins, decimal_same}
-use Rattle.book.proofs.Places.{stands_kept, rooted_more, pushed_kept, kept_refl, kept_trans}
+use Rattle.book.proofs.Places.{rooted_kept, rooted_push, rooted_at, pushed_kept, kept_refl, kept_trans}
 
 -- ---- the word at a place
 
@@ -100,7 +101,7 @@ pub leaf_read : (s : List ℕ) (p m q left root : ℕ) (l : Leaf) (x x' : RuleNo
 leaf_read s p m q left root l x x' f t =
     let n = t.number in
     let none = leaf_ops l n in
-    let more = t.pushed.len in
+    let more = ap length t.pushed.nodes ∙ length-append x.nodes.items (leaf_node l n ∷ []) in
     let a = f.longer in
     let b = t.read.longer in
     let last = t.last in
@@ -112,8 +113,8 @@ leaf_read s p m q left root l x x' f t =
       longer = omega arith;
       within = t.read.within;
       rooted = omega arith;
-      stands = leaf_stands x'.nodes root n l (ap (λ i. get_or x'.nodes i (node.Any 0)) last ∙ t.pushed.there);
-      kept = pushed_kept x x' _ t.pushed;
+      stands = leaf_stands x'.nodes.items root n l (rw (t.pushed.nodes, last) (get_or_at x.nodes.items (leaf_node l n) [] (node.Any 0) _ refl));
+      kept = pushed_kept t.pushed;
       size = omega arith;
     }
 
@@ -135,45 +136,63 @@ leaf_too_large s p q n l v num bad m r ok h =
 
 -- ---- operations
 
-part_stands : {o : Operation} {es : List Term} (ns : List Node) (i n : ℕ) (roots : List ℕ) → Parts o es → n ≤ i → get_or ns i (node.Any 0) ≡ operation_node o roots → Rooted ns n roots 0 es → Stands ns i (applied o es)
-part_stands ns i n roots one le e r = let a = r.0 in (get_or roots 0 0, e, omega arith, r.1)
-part_stands ns i n roots two le e r =
-    let a = r.0 in
-    let b = r.2.0 in
-    (get_or roots 0 0, get_or roots 1 0, e, omega arith, omega arith, r.1, r.2.1)
-part_stands ns i n roots three le e r =
-    let a = r.0 in
-    let b = r.2.0 in
-    let d = r.2.2.0 in
-    (get_or roots 0 0, get_or roots 1 0, get_or roots 2 0, e, omega arith, omega arith, omega arith, r.1, r.2.1, r.2.2.1)
-
-rooted_kept : (ns ms : List Node) (n : ℕ) → ((k : ℕ) → k < n → get_or ms k (node.Any 0) ≡ get_or ns k (node.Any 0)) → (roots : List ℕ) (k : ℕ) (es : List Term) → Rooted ns n roots k es → Rooted ms n roots k es
-rooted_kept ns ms n same roots k [] r = tt
-rooted_kept ns ms n same roots k (e ∷ es) r = (r.0, stands_kept ns ms n same (get_or roots k 0) e r.0 r.1, rooted_kept ns ms n same roots (suc k) es r.2)
+-- the node of an operation, added after its parts, stands for the operation
+part_stands : {o : Operation} {es : List Term} (ns : List Node) (roots : List ℕ) → Parts o es → Rooted ns roots es → Stands (ns ++ operation_node o roots ∷ []) (length ns) (applied o es)
+part_stands ns roots (one {o} {x}) r =
+    let es = x ∷ [] in
+    let kept = rooted_kept ns _ roots es r in
+    (get_or roots 0 0, get_or_at ns _ [] (node.Any 0) (length ns) refl, (rooted_at ns roots es 0 (omega arith) r).0, (rooted_at _ roots es 0 (omega arith) kept).1)
+part_stands ns roots (two {o} {x} {y}) r =
+    let es = x ∷ y ∷ [] in
+    let kept = rooted_kept ns _ roots es r in (
+      get_or roots 0 0,
+      get_or roots 1 0,
+      get_or_at ns _ [] (node.Any 0) (length ns) refl,
+      (rooted_at ns roots es 0 (omega arith) r).0,
+      (rooted_at ns roots es 1 (omega arith) r).0,
+      (rooted_at _ roots es 0 (omega arith) kept).1,
+      (rooted_at _ roots es 1 (omega arith) kept).1,
+    )
+part_stands ns roots (three {t} {x} {y}) r =
+    let es = t ∷ x ∷ y ∷ [] in
+    let kept = rooted_kept ns _ roots es r in (
+      get_or roots 0 0,
+      get_or roots 1 0,
+      get_or roots 2 0,
+      get_or_at ns _ [] (node.Any 0) (length ns) refl,
+      (rooted_at ns roots es 0 (omega arith) r).0,
+      (rooted_at ns roots es 1 (omega arith) r).0,
+      (rooted_at ns roots es 2 (omega arith) r).0,
+      (rooted_at _ roots es 0 (omega arith) kept).1,
+      (rooted_at _ roots es 1 (omega arith) kept).1,
+      (rooted_at _ roots es 2 (omega arith) kept).1,
+    )
 
 -- the node of an operation may be added after its parts
-pub operation_sound : {es : List Term} (w i : ℕ) (o : Operation) (ns : List Node) (roots : List ℕ) → Parts o es → Rooted ns i roots 0 es → sound w i (operation_node o roots) ≡ true
-operation_sound w i o ns roots one r = lt-ltb _ _ r.0
-operation_sound w i o ns roots two r = and_from _ _ (lt-ltb _ _ r.0) (lt-ltb _ _ r.2.0)
-operation_sound w i o ns roots three r = and_from _ _ (lt-ltb _ _ r.0) (and_from _ _ (lt-ltb _ _ r.2.0) (lt-ltb _ _ r.2.2.0))
+pub operation_sound : {es : List Term} (w : ℕ) (o : Operation) (ns : List Node) (roots : List ℕ) → Parts o es → Rooted ns roots es → sound w (length ns) (operation_node o roots) ≡ true
+operation_sound w o ns roots (one {o = u} {x}) r = lt-ltb _ _ (rooted_at ns roots (x ∷ []) 0 (omega arith) r).0
+operation_sound w o ns roots (two {o = b} {x} {y}) r =
+    and_from _ _ (lt-ltb _ _ (rooted_at ns roots (x ∷ y ∷ []) 0 (omega arith) r).0) (lt-ltb _ _ (rooted_at ns roots (x ∷ y ∷ []) 1 (omega arith) r).0)
+operation_sound w o ns roots (three {t} {x} {y}) r =
+    and_from _ _ (lt-ltb _ _ (rooted_at ns roots (t ∷ x ∷ y ∷ []) 0 (omega arith) r).0)
+    (and_from _ _ (lt-ltb _ _ (rooted_at ns roots (t ∷ x ∷ y ∷ []) 1 (omega arith) r).0) (lt-ltb _ _ (rooted_at ns roots (t ∷ x ∷ y ∷ []) 2 (omega arith) r).0))
 
 pub arity_few : (o : Operation) → arity o ≤ 3
 arity_few (Unary o) = omega arith
 arity_few (Binary o) = omega arith
 arity_few Ite = omega arith
 
-pub operation_read : (s : List ℕ) (p m q left left' : ℕ) (o : Operation) (x y z : RuleNodes) (roots : List ℕ) → At s p (token.Operation o) m → IsTermsRead s m (arity o) left x y roots q left' → Pushed y z (operation_node o roots) → IsTermRead s p (left + 1) x z y.len q left'
+pub operation_read : (s : List ℕ) (p m q left left' : ℕ) (o : Operation) (x y z : RuleNodes) (roots : List ℕ) → At s p (token.Operation o) m → IsTermsRead s m (arity o) left x y roots q left' → Pushed y z (operation_node o roots) → IsTermRead s p (left + 1) x z (array_vec_len y.nodes) q left'
 operation_read s p m q left left' o x y z roots f t push =
     let es = t.terms in
     let view = parts o es t.count in
     let some = applied_ops view in
-    let more = push.len in
+    let more = ap length push.nodes ∙ length-append y.nodes.items (operation_node o roots ∷ []) in
     let a = f.longer in
     let b = t.longer in
     let c = t.counted in
     let size = t.size in
     let few = arity_few o in
-    let kept = pushed_kept y z _ push in
     record {
       term = applied o es;
       text = f.before ∙ ap (λ w. w ∷ rest s m) f.is ∙ ap (λ ws. operation_name o ∷ ws) t.text ∙ ap (λ ws. ws ++ rest s q) (sym (applied_writes view));
@@ -182,8 +201,8 @@ operation_read s p m q left left' o x y z roots f t push =
       longer = omega arith;
       within = t.within;
       rooted = omega arith;
-      stands = part_stands z.nodes y.len y.len roots view (omega arith) push.there (rooted_kept y.nodes z.nodes y.len kept.nodes roots 0 es t.rooted);
-      kept = kept_trans x y z t.kept kept;
+      stands = rw push.nodes (part_stands y.nodes.items roots view t.rooted);
+      kept = kept_trans t.kept (pushed_kept push);
       size = omega arith;
     }
 
@@ -221,12 +240,7 @@ ops_append : (es fs : List Term) → ops_all (es ++ fs) ≡ ops_all es + ops_all
 ops_append [] fs = omega arith
 ops_append (e ∷ es) fs = let h = ops_append es fs in omega arith
 
-zeros : (n k : ℕ) → get_or {A = ℕ} (replicate n 0) k 0 ≡ 0
-zeros zero k = refl
-zeros (suc n) zero = refl
-zeros (suc n) (suc k) = zeros n k
-
-pub no_terms_yet : (s : List ℕ) (p left : ℕ) (x : RuleNodes) → p ≤ length s → IsTermsRead s p 0 left x x (replicate 6 0) p left
+pub no_terms_yet : (s : List ℕ) (p left : ℕ) (x : RuleNodes) → p ≤ length s → IsTermsRead s p 0 left x x [] p left
 no_terms_yet s p left x le =
     record {
       terms = [];
@@ -236,20 +250,15 @@ no_terms_yet s p left x le =
       counted = omega arith;
       longer = omega arith;
       within = le;
-      places = refl;
-      inside = λ k h. let z = zeros 6 k in omega arith;
       rooted = tt;
       kept = kept_refl x;
       size = omega arith;
     }
 
-pub one_term_more : (s : List ℕ) (p q q' n left left' left'' root : ℕ) (x y z : RuleNodes) (roots : List ℕ) → n < 6 → z.len ≤ 102 → IsTermsRead s p n left x y roots q left' → IsTermRead s q left' y z root q' left'' → IsTermsRead s p (n + 1) left x z (set roots n root) q' left''
-one_term_more s p q q' n left left' left'' root x y z roots lt fits t u =
+pub one_term_more : (s : List ℕ) (p q q' n left left' left'' root : ℕ) (x y z : RuleNodes) (roots : List ℕ) → IsTermsRead s p n left x y roots q left' → IsTermRead s q left' y z root q' left'' → IsTermsRead s p (n + 1) left x z (roots ++ root ∷ []) q' left''
+one_term_more s p q q' n left left' left'' root x y z roots t u =
     let es = t.terms in
     let e = u.term in
-    let count = t.count in
-    let places = t.places in
-    let below = u.rooted in
     let ends = t.longer in
     let ends' = u.longer in
     let a = t.counted in
@@ -258,24 +267,17 @@ one_term_more s p q q' n left left' left'' root x y z roots lt fits t u =
     let size' = u.size in
     let all = ops_append es (e ∷ []) in
     let width = t.kept.width in
-    let grows = u.kept.grows in
     record {
       terms = es ++ (e ∷ []);
-      count = length-append es (e ∷ []) ∙ ap (λ k. k + 1) count;
+      count = length-append es (e ∷ []) ∙ ap (λ k. k + 1) t.count;
       text = t.text ∙ ap (λ ws. write_terms es ++ ws) u.text ∙ sym (append_assoc (write_terms es) (write_term e) (rest s q'))
           ∙ ap (λ ws. (write_terms es ++ ws) ++ rest s q') (sym (append-nil (write_term e))) ∙ ap (λ ws. ws ++ rest s q') (sym (writes_append es (e ∷ [])));
       ok = ok_append (bits x.width) es (e ∷ []) t.ok (and_from _ _ (subst (λ v. ok_term (bits v) e ≡ true) width u.ok) refl);
       counted = omega arith;
       longer = omega arith;
       within = u.within;
-      places = length-set roots n root ∙ places;
-      inside = λ k h. elim (cases_eq k n) [
-        | inl same ↦ let at = ap (λ j. get_or (set roots n root) j 0) same ∙ get_or-set_same roots n root 0 (omega arith) in omega arith
-        | inr ne ↦ let at = get_or-set_other roots n k root 0 ne in let old = t.inside k h in omega arith
-      ];
-      rooted = subst (λ j. Rooted z.nodes z.len (set roots j root) 0 (es ++ (e ∷ []))) (let j : 0 + length es ≡ n = omega arith in j)
-          (rooted_more y.nodes z.nodes y.len z.len grows u.kept.nodes roots 0 es root e (omega arith) below u.stands t.rooted);
-      kept = kept_trans x y z t.kept u.kept;
+      rooted = rooted_push z.nodes.items roots es root e (rw u.kept.nodes (rooted_kept y.nodes.items u.kept.more roots es t.rooted)) u.rooted u.stands;
+      kept = kept_trans t.kept u.kept;
       size = omega arith;
     }
 
