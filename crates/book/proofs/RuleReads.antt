@@ -1,5 +1,5 @@
 -- Reading rules and a book: what a step of it shows, and what a fault shows.
-use Rattle.std.proofs.Common.{◌≡◌, ℕ, zero, suc, ◌+◌, ◌^◌, ◌<◌, ◌≤◌, true, List, [], ◌∷◌, ◌++◌, length, get_or, take, codes, sym, refl, ap, ◌∙◌, subst, append_assoc, append-nil, arith}
+use Rattle.std.proofs.Common.{◌≡◌, ℕ, zero, suc, ◌+◌, ◌-◌, ◌^◌, ◌<◌, ◌≤◌, true, List, [], ◌∷◌, ◌++◌, length, get_or, take, codes, sym, refl, ap, ◌∙◌, subst, append_assoc, append-nil, arith}
 use Rattle.std.proofs.lemmas.List.{length-append, take_more, get_or_at}
 use Rattle.std.proofs.lemmas.Bool.{and_parts, and_from, le-leb, leb-true}
 use Rattle.words.specs.declared.Width.{Width}
@@ -13,7 +13,7 @@ use Rattle.book.specs.declared.token.Token.{Token}
 use Rattle.book.specs.declared.token.Token.TheVariants as token
 use Rattle.book.specs.Text.{decimal, write_terms, write_rule, write_book, ok_rules, Book}
 use Rattle.book.specs.Scan.{rest, At}
-use Rattle.book.specs.Reading.{IsNumberRead, NoNumber, IsTermsRead, NoTerms, IsHeaderRead, NoHeader, IsRuleRead, NoRule, IsRulesRead}
+use Rattle.book.specs.Reading.{IsNumberRead, NoNumber, IsTermsRead, NoTerms, IsHeaderRead, NoHeader, IsRuleRead, NoRule, IsRulesRead, HasRules}
 use Rattle.book.proofs.Unique.{first_same, rest_same, never_empty, decimal_same}
 use Rattle.book.proofs.Books.{limits, length_terms, width_same, bits_short, one_rule, book_begins, no_rules}
 use Rattle.book.proofs.TermReads.{token_at}
@@ -202,3 +202,17 @@ next_rule s p q n x rs r bs b =
     let all : bs ≡ rs.rules ++ (r.rule ∷ f.0) = a.1 ∙ ap (λ l. rs.rules ++ l) f.1 in
     let lt : n < length bs = omega (arith, rs.count, ap length all, length-append rs.rules (r.rule ∷ f.0)) in
     take_more bs n r.rule lt ∙ ap (λ y. take n bs ++ (y ∷ [])) (ap (λ l. get_or l n r.rule) all ∙ get_or_at rs.rules r.rule f.0 r.rule n rs.count)
+
+-- ---- the rules that are still to come
+
+-- where rules come, one can be read
+pub rules_there : (s : List ℕ) (p n : ℕ) → HasRules s p n → (n ≡ 0 → ⊥) → NoRule s p → ⊥
+rules_there s p n ([], count, text, ok) some none = some (sym count)
+rules_there s p n (r ∷ rs, count, text, ok) some none = none r (write_book rs) (and_parts _ _ ok).0 text
+
+-- after it come the others
+pub rules_after : (s : List ℕ) (p q n : ℕ) (x : RuleNodes) → HasRules s p n → (n ≡ 0 → ⊥) → IsRuleRead s p x q → HasRules s q (n - 1)
+rules_after s p q n x ([], count, text, ok) some one = absurd (some (sym count))
+rules_after s p q n x (r ∷ rs, count, text, ok) some one =
+    let oks = and_parts _ _ ok in
+    (rs, omega arith, (one_rule one.rule r (rest s q) (write_book rs) one.ok oks.0 (sym one.text ∙ text)).1, oks.1)

@@ -110,6 +110,10 @@ pub record IsRulesRead (s : List ℕ) (p n : ℕ) : Type 0 where
   pub few : n ≤ 256
   pub within : p ≤ length s
 
+-- from p to its end the text s has so many rules within the limits, and no other word
+abbrev pub HasRules : List ℕ → ℕ → ℕ → Type 0
+HasRules s p n = (rs : List Rule) × (length rs ≡ n) × (rest s p ≡ write_book rs) × (ok_rules rs ≡ true)
+
 -- What comes of reading a text: it is a book of so many rules, or none; and it is one book at most.
 pub record IsBookRead (s : List ℕ) (r : Result ℕ Fault) : Type 0 where
   pub says : MatchResult r (λ n. (rs : List Rule) × Book s rs × (length rs ≡ n)) (λ _. (rs : List Rule) → Book s rs → ⊥)

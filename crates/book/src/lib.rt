@@ -8,6 +8,7 @@ mod number;
 mod place;
 mod reader;
 mod rule;
+mod rules;
 mod term;
 mod token;
 
@@ -15,3 +16,4 @@ pub use book::read_book;
 pub use fault::{Fault, Reason};
 pub use place::{Position, locate};
 pub use reader::Reader;
+pub use rules::Rules;

@@ -3,11 +3,8 @@
 // fault.
 #![tactic(auto)]
 
-ghost use Rattle.std.specs.Prelude.{Ok};
-ghost use Rattle.book.specs.Reading.{IsBookRead};
-
 use anyhow::anyhow;
-use book::{Reader, locate, read_book};
+use book::{Rules, locate};
 use std::env;
 use std::fs::File;
 use std::io::Read;
@@ -29,21 +26,15 @@ fn read_text(rt: &HostRuntime, path: &str) -> anyhow::Result<Vec<u8>> {
 }
 
 // Prints what is known of each rule of a book.
-fn report(rt: &HostRuntime, text: &[u8], rules: usize) -> anyhow::Result<()>
-    requires { IsBookRead text.now (Ok rules) }
-{
-    let mut reader = Reader::new(text);
-    for number in 1..=rules {
-        let Ok(rule) = reader.rule() else {
-            unreachable!()
-        };
+fn report(rt: &HostRuntime, rules: Rules<'_>) -> anyhow::Result<()> {
+    for (i, rule) in rules.enumerate() {
         let heavy = weight(&rule);
         let verdict = if usable(&rule) {
             "may be used"
         } else {
             "may not be used"
         };
-        println!(rt; "rule {number}: weight {heavy}, {verdict}")?;
+        println!(rt; "rule {}: weight {heavy}, {verdict}", i + 1)?;
     }
     Ok(())
 }
@@ -55,8 +46,8 @@ fn run(rt: &HostRuntime) -> anyhow::Result<()> {
         return Err(anyhow!("use: judge_book FILE"));
     };
     let text = read_text(rt, path.as_str())?;
-    match read_book(text.as_slice()) {
-        Ok(rules) => report(rt, text.as_slice(), rules),
+    match Rules::of(text.as_slice()) {
+        Ok(rules) => report(rt, rules),
         Err(fault) => {
             let place = locate(text.as_slice(), fault.at);
             println!(rt; "no book: {place}: {fault}")?;
