@@ -1,8 +1,7 @@
 -- The values of nodes are those of the terms that they stand for.
 use Rattle.std.proofs.Common.{◌≡◌, ℕ, zero, suc, ◌+◌, ◌-◌, ◌^◌, ◌<◌, ◌≤◌, ◌≢◌, not, eqb, List, [], ◌∷◌, length, get_or, set, take, Decides, sym, ap, ◌∙◌, subst, inl, inr, arith}
-use Rattle.std.proofs.lemmas.Nat.{pow_pos}
-use Rattle.std.proofs.lemmas.List.{get_or-set_same, get_or-set_other, get_or_past, get_or-take, length-take-le}
-use Rattle.std.proofs.lemmas.Bool.{cases_eq, cases_lt, eqb-false, ne_eqb, not-true, not_from_false}
+use Rattle.std.proofs.lemmas.List.{get_or-set_same, get_or-set_other, get_or-take, length-take-le}
+use Rattle.std.proofs.lemmas.Bool.{cases_eq, eqb-false, ne_eqb, not-true, not_from_false}
 use Rattle.words.specs.Words.{bits, do1}
 use Rattle.terms.specs.declared.node.Node.{Node}
 use Rattle.terms.specs.declared.node.Node.TheVariants.{Any}
@@ -57,12 +56,6 @@ met_at w a c [] i h m = let z : ⊥ = omega arith in absurd z
 met_at w a c (e ∷ es) zero h m = m.0
 met_at w a c (e ∷ es) (suc i) h m = met_at w a c es i (omega arith) m.1
 
--- a name that is not in the list has the value 0
-words_within : (x : RuleNodes) (r : Rule) (xs : List ℕ) → length xs ≡ 16 → Represents x r → AreWords (bits x.width) 16 xs → Within (bits r.width) (λ k. get_or xs k 0)
-words_within x r xs n rep all i =
-    subst (λ w. get_or xs i 0 < 2 ^ bits w) rep.width
-    (elim (cases_lt i 16) [ inl lt ↦ all i lt | inr ge ↦ rw (get_or_past xs i 0 (omega arith)) (pow_pos (bits x.width)) ])
-
 module _ (x : RuleNodes) (r : Rule) (ks a c vs : List ℕ) (all : Evaluated x a c vs) (rep : Represents x r) (roots : ks ≡ x.roots.items) where
   -- that no needed term is 0, as the roots tell it
   abbrev pub NeedsMet : Type 0
@@ -78,13 +71,13 @@ module _ (x : RuleNodes) (r : Rule) (ks a c vs : List ℕ) (all : Evaluated x a 
       met_at (bits r.width) (λ k. get_or a k 0) (λ k. get_or c k 0) r.needs k below f.met (sym (need_value k below) ∙ z)
 
   -- where none is 0, it fails exactly if its sides differ
-  pub differ_fails : length a ≡ 16 → length c ≡ 16 → AreWords (bits x.width) 16 a → AreWords (bits x.width) 16 c → NeedsMet → Decides (not (eqb (get_or vs (get_or ks (length ks - 2) 0) 0) (get_or vs (get_or ks (length ks - 1) 0) 0))) (Fails r (λ k. get_or a k 0) (λ k. get_or c k 0))
-  differ_fails na nc wa wc met =
+  pub differ_fails : Within (bits x.width) (λ k. get_or a k 0) → Within (bits x.width) (λ k. get_or c k 0) → NeedsMet → Decides (not (eqb (get_or vs (get_or ks (length ks - 2) 0) 0) (get_or vs (get_or ks (length ks - 1) 0) 0))) (Fails r (λ k. get_or a k 0) (λ k. get_or c k 0))
+  differ_fails wa wc met =
       let from = root_value x r a c vs _ r.from all rep (from_root x r ks rep roots) in
       let to = root_value x r a c vs _ r.to all rep (to_root x r ks rep roots) in (
         λ t. record {
-          a_in = words_within x r a na rep wa;
-          c_in = words_within x r c nc rep wc;
+          a_in = subst (λ w. Within (bits w) (λ k. get_or a k 0)) rep.width wa;
+          c_in = subst (λ w. Within (bits w) (λ k. get_or c k 0)) rep.width wc;
           met = met_from (bits r.width) (λ k. get_or a k 0) (λ k. get_or c k 0) r.needs (λ i h z. met i (omega (arith, need_count x r ks rep roots)) (need_value i h ∙ z));
           differ = λ e. eqb-false _ _ (not-true _ t) (from ∙ e ∙ sym to);
         },

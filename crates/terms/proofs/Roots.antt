@@ -12,7 +12,7 @@ abbrev pub Root : RuleNodes → ℕ → Term → Type 0
 Root x p e = (p < length x.nodes.items) × Stands x.nodes.items p e
 
 -- the term at place i of those that are rooted
-rooted_at : (ns : List Node) (roots : List ℕ) (es : List Term) (i : ℕ) → i < length es → Rooted ns roots es → (get_or roots i 0 < length ns) × Stands ns (get_or roots i 0) (get_or es i (any 0))
+pub rooted_at : (ns : List Node) (roots : List ℕ) (es : List Term) (i : ℕ) → i < length es → Rooted ns roots es → (get_or roots i 0 < length ns) × Stands ns (get_or roots i 0) (get_or es i (any 0))
 rooted_at ns [] [] i h r = let z : ⊥ = omega arith in absurd z
 rooted_at ns [] (e ∷ es) i h r = absurd r
 rooted_at ns (k ∷ ks) [] i h r = absurd r

@@ -1,6 +1,7 @@
 // Values for the names of a rule.
+ghost use Rattle.std.specs.Prelude.{slice_index};
 ghost use Rattle.words.specs.Words.{bits};
-ghost use Rattle.terms.specs.Values.{AreWords};
+ghost use Rattle.terms.specs.Terms.{Within};
 
 use words::Width;
 
@@ -10,6 +11,6 @@ pub struct Assignment {
     pub width: Width,
     pub any: [u64; 16],
     pub con: [u64; 16],
-    ghost any_words: { AreWords (bits width) 16 any },
-    ghost con_words: { AreWords (bits width) 16 con },
+    ghost any_words: { Within (bits width) (λ k. slice_index any k) },
+    ghost con_words: { Within (bits width) (λ k. slice_index con k) },
 }

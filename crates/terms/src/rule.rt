@@ -50,6 +50,14 @@ impl RuleNodes {
         place
     }
 
+    // The node at a place.
+    pub fn node(&self, place: usize) -> Node
+        requires { place < array_vec_len self.now.nodes }
+        ensures { result ≡ slice_index_or self.now.nodes.items place (Node.Any 0) }
+    {
+        self.nodes[place]
+    }
+
     // Gives the rule its terms, by their roots.
     pub fn set_roots(&mut self, roots: ArrayVec<usize, 6>)
         requires { EachIndex roots.items (λ k. slice_index roots.items k < 102) }

@@ -1,7 +1,5 @@
-use Rattle.std.proofs.Common.{length, sym, ap, ◌∙◌, subst, arith}
+use Rattle.std.proofs.Common.{length, sym, ap, ◌∙◌, arith}
 use Rattle.std.proofs.lemmas.Bool.{false≢true}
-use Rattle.words.specs.Words.{bits}
-use Rattle.terms.specs.Values.{AreWords}
 use Rattle.terms.proofs.Evaluated.{fails_met, differ_fails}
 use Rattle.terms.proofs.Roots.{root_count}
 use Rattle.terms.proofs.evaluation.fails_at.Goals as goal
@@ -12,7 +10,7 @@ returns-in_default c = λ r rep. absurd (omega (arith, root_count c.args.rule.no
 pub returns-then-all_met : goal.returns-then-all_met
 returns-then-all_met c = λ r rep.
     let a = c.args.assignment.now in
-    differ_fails c.args.rule.now r c.as_slice.result.now a.any a.con c.evaluate.new.values c.evaluate.ensures rep c.as_slice.ensures.value (omega arith) (omega arith) (subst (λ w. AreWords (bits w) 16 a.any) c.requires a.any_words) (subst (λ w. AreWords (bits w) 16 a.con) c.requires a.con_words) (c.all_met.ensures.0 c.if-all_met.true)
+    differ_fails c.args.rule.now r c.as_slice.result.now a.any a.con c.evaluate.new.values c.evaluate.ensures rep c.as_slice.ensures.value (rw (← c.requires) a.any_words) (rw (← c.requires) a.con_words) (c.all_met.ensures.0 c.if-all_met.true)
 
 pub returns-else-all_met : goal.returns-else-all_met
 returns-else-all_met c = λ r rep.
