@@ -1,5 +1,5 @@
 -- Terms in nodes: what stays when nodes are added, and a root more.
-use Rattle.std.proofs.Common.{ℕ, zero, suc, ◌<◌, List, [], ◌∷◌, ◌++◌, length, get_or, sym, refl, ap, ◌∙◌, append_assoc, append-nil, arith}
+use Rattle.std.proofs.Common.{ℕ, ◌<◌, List, [], ◌∷◌, ◌++◌, length, ap, ◌∙◌, append_assoc, arith}
 use Rattle.std.proofs.lemmas.List.{get_or_append_left, length-append}
 use Rattle.terms.specs.declared.node.Node.{Node}
 use Rattle.terms.specs.declared.node.Node.TheVariants.{Any}
@@ -52,21 +52,10 @@ rooted_push ns [] (f ∷ es) root e r lt there = absurd r
 rooted_push ns (i ∷ roots) [] root e r lt there = absurd r
 rooted_push ns (i ∷ roots) (f ∷ es) root e r lt there = (r.0, rooted_push ns roots es root e r.1 lt there)
 
--- the term at place i of those that are rooted
-pub rooted_at : (ns : List Node) (roots : List ℕ) (es : List Term) (i : ℕ) → i < length es → Rooted ns roots es → (get_or roots i 0 < length ns) × Stands ns (get_or roots i 0) (get_or es i (any 0))
-rooted_at ns [] [] i h r = let z : ⊥ = omega arith in absurd z
-rooted_at ns [] (e ∷ es) i h r = absurd r
-rooted_at ns (k ∷ ks) [] i h r = absurd r
-rooted_at ns (k ∷ ks) (e ∷ es) zero h r = r.0
-rooted_at ns (k ∷ ks) (e ∷ es) (suc i) h r = rooted_at ns ks es i (omega arith) r.1
-
 -- ---- a node is added
 
 pub pushed_kept : {x x' : RuleNodes} {node : Node} → Pushed x x' node → Kept x x'
 pushed_kept {node = node} p = record { more = node ∷ []; nodes = p.nodes; width = p.width }
-
-pub kept_refl : (x : RuleNodes) → Kept x x
-kept_refl x = record { more = []; nodes = sym (append-nil x.nodes.items); width = refl }
 
 pub kept_trans : {x y z : RuleNodes} → Kept x y → Kept y z → Kept x z
 kept_trans {x} p q = record {

@@ -24,7 +24,8 @@ use Rattle.book.specs.Scan.{rest, Found, At}
 use Rattle.book.specs.Reading.{IsNumberRead, NoNumber, Pushed, IsLeafRead, NoLeaf, IsTermRead, NoTerm, IsTermsRead, NoTerms}
 use Rattle.book.proofs.Tokens.{one_token}
 use Rattle.book.proofs.Unique.{first_same, rest_same, never_empty, head, head_writes, Begins, begins, Parts, one, two, three, parts, applied_writes, applied_ok, applied_ops, list_begins, decimal_same}
-use Rattle.book.proofs.Places.{rooted_kept, rooted_push, rooted_at, pushed_kept, kept_refl, kept_trans}
+use Rattle.terms.proofs.Roots.{rooted_at}
+use Rattle.book.proofs.Places.{rooted_kept, rooted_push, pushed_kept, kept_trans}
 
 -- ---- the word at a place
 
@@ -123,10 +124,7 @@ leaf_missing s p m left l v f none e r ok small h =
     let b = term_begins s p m (token.Leaf l) f f.is e r h in
     none b.0 r (subst (λ g. ok_term (bits v) g ≡ true) b.1 ok) b.2
 
--- no number, or too large a one
-pub leaf_no_number : (s : List ℕ) (p : ℕ) (l : Leaf) (v : Width) → NoNumber s p → NoLeaf s p l v
-leaf_no_number s p l v none n r ok h = none n r (leaf_small v l n ok) h
-
+-- too large a number
 pub leaf_too_large : (s : List ℕ) (p q n : ℕ) (l : Leaf) (v : Width) → IsNumberRead s p n q → ok_term (bits v) (leaf_term l n) ≡ false → NoLeaf s p l v
 leaf_too_large s p q n l v num bad m r ok h =
     let small_n = num.small in
@@ -239,21 +237,6 @@ ok_parts w (e ∷ es) fs h = ok_parts w es fs (and_parts _ _ h).1
 ops_append : (es fs : List Term) → ops_all (es ++ fs) ≡ ops_all es + ops_all fs
 ops_append [] fs = omega arith
 ops_append (e ∷ es) fs = let h = ops_append es fs in omega arith
-
-pub no_terms_yet : (s : List ℕ) (p left : ℕ) (x : RuleNodes) → p ≤ length s → IsTermsRead s p 0 left x x [] p left
-no_terms_yet s p left x le =
-    record {
-      terms = [];
-      count = refl;
-      text = refl;
-      ok = refl;
-      counted = omega arith;
-      longer = omega arith;
-      within = le;
-      rooted = tt;
-      kept = kept_refl x;
-      size = omega arith;
-    }
 
 pub one_term_more : (s : List ℕ) (p q q' n left left' left'' root : ℕ) (x y z : RuleNodes) (roots : List ℕ) → IsTermsRead s p n left x y roots q left' → IsTermRead s q left' y z root q' left'' → IsTermsRead s p (n + 1) left x z (roots ++ root ∷ []) q' left''
 one_term_more s p q q' n left left' left'' root x y z roots t u =

@@ -1,5 +1,5 @@
 use Rattle.std.proofs.Common.{◌≡◌, Bool, false, Decides, ◌∙◌, arith}
-use Rattle.std.proofs.lemmas.Result.{err_from_is_err_and}
+use Rattle.std.proofs.lemmas.Result.{MatchResult-from_err}
 use Rattle.std.proofs.lemmas.Bool.{both_ways}
 use Rattle.book.proofs.Books.{one_book}
 use Rattle.book.proofs.RuleReads.{one_rule_more, book_read, no_rule_no_book, too_many_no_book}
@@ -21,8 +21,10 @@ returns-in_err-rule c =
     let at = c.loop-reader.reader.at in
     let ends = rw c.loop-reader.invariant.text at c.is_at_end.ensures in
     let none = rw c.loop-reader.invariant.text at c.in_err-rule.ensures.read in
-    let p = err_from_is_err_and c.from_residual.result c.from_residual.ensures.1 in
-    rw p.1 (record { says = no_rule_no_book s at c.loop-reader.count c.loop-reader.invariant.read (decided_not ends c.loop-reader-test.true) none; one = one_book s })
+    record {
+      says = MatchResult-from_err _ _ _ c.from_residual.ensures.0 (λ _. no_rule_no_book s at c.loop-reader.count c.loop-reader.invariant.read (decided_not ends c.loop-reader-test.true) none);
+      one = one_book s;
+    }
 
 pub loop-reader-preserved : goal.loop-reader-preserved
 loop-reader-preserved c =

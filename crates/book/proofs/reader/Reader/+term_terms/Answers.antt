@@ -1,5 +1,5 @@
 use Rattle.std.proofs.Common.{◌≡◌, ◌+◌, ◌-◌, ◌<◌, lit<, ◌++◌, ◌∷◌, [], length, sym, ap, ◌∙◌, subst, arith}
-use Rattle.std.proofs.lemmas.Result.{err_from_is_err_and, MatchResult-weaker}
+use Rattle.std.proofs.lemmas.Result.{MatchResult-from_err, MatchResult-weaker}
 use Rattle.arrayvec.specs.ArrayVec.{array_vec_len}
 use Rattle.words.specs.Words.{bits}
 use Rattle.terms.specs.Nodes.{sound}
@@ -23,8 +23,7 @@ term-returns-in_err-parts-in-Operation-clause-read t c =
     let d = c.args.draft.now in
     let left : d.left - 1 + 1 ≡ d.left = omega arith in
     let none = rw (c.next.ensures.text, c.part_count.ensures) at c.in_err-parts-in-Operation.ensures.read in
-    let p = err_from_is_err_and c.from_residual.result c.from_residual.ensures.1 in
-    rw p.1 (subst (λ n. NoTerm s.text.now s.at n d.rule.width) left (operation_no_parts s.text.now s.at c.next.new.self.at (d.left - 1) c.in-Operation.op d.rule.width c.in-Operation.ensures.next.2 none))
+    MatchResult-from_err _ _ _ c.from_residual.ensures.0 (λ _. subst (λ n. NoTerm s.text.now s.at n d.rule.width) left (operation_no_parts s.text.now s.at c.next.new.self.at (d.left - 1) c.in-Operation.op d.rule.width c.in-Operation.ensures.next.2 none))
 
 pub term-node-requires : goal.term-node-requires
 term-node-requires t c =
@@ -82,8 +81,7 @@ terms-returns-in_err-term-clause-read t c =
     let s = c.args.self.now in
     let d = c.args.draft.now in
     let none = rw c.loop.invariant.text at c.in_err-term.ensures.read in
-    let p = err_from_is_err_and c.from_residual.result c.from_residual.ensures.1 in
-    rw p.1 (one_term_missing s.text.now s.at c.loop.self.at c.loop.counter c.args.count d.left c.loop.draft.left d.rule c.loop.draft.rule c.loop.roots.items c.loop-test.true c.loop.invariant.read none)
+    MatchResult-from_err _ _ _ c.from_residual.ensures.0 (λ _. one_term_missing s.text.now s.at c.loop.self.at c.loop.counter c.args.count d.left c.loop.draft.left d.rule c.loop.draft.rule c.loop.roots.items c.loop-test.true c.loop.invariant.read none)
 
 pub terms-push-requires : goal.terms-push-requires
 terms-push-requires t c =

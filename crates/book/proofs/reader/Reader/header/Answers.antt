@@ -1,5 +1,5 @@
 use Rattle.std.proofs.Common.{◌∙◌}
-use Rattle.std.proofs.lemmas.Result.{err_from_is_err_and}
+use Rattle.std.proofs.lemmas.Result.{MatchResult-from_err}
 use Rattle.book.proofs.RuleReads.{rule_expected, width_expected, needed_no_number, needed_expected}
 use Rattle.book.proofs.reader.Reader.header.Goals as goal
 
@@ -20,8 +20,7 @@ returns-in_err-needed-clause-read c =
     let f = c.in-Rule.ensures.next.2 in
     let bits = rw c.next.ensures.text at c.in_ok-bits.ensures.read in
     let needed = rw (c.in_ok-bits.ensures.text ∙ c.next.ensures.text) at c.in_err-needed.ensures.read in
-    let p = err_from_is_err_and c.from_residual-in_err-needed.result c.from_residual-in_err-needed.ensures.1 in
-    rw p.1 (needed_no_number c.args.self.now.text.now c.args.self.now.at c.next.new.self.at c.number.new.self.at c.in_ok-bits.bits f bits needed)
+    MatchResult-from_err _ _ _ c.from_residual-in_err-needed.ensures.0 (λ _. needed_no_number c.args.self.now.text.now c.args.self.now.at c.next.new.self.at c.number.new.self.at c.in_ok-bits.bits f bits needed)
 
 pub returns-then-needed-gt4-clause-read : goal.returns-then-needed-gt4-clause-read
 returns-then-needed-gt4-clause-read c =

@@ -1,8 +1,7 @@
 use Rattle.std.proofs.Common.{◌≡◌, ◌≤◌, length, ap, arith}
-use Rattle.std.proofs.lemmas.Result.{err_from_is_err_and}
+use Rattle.std.proofs.lemmas.Result.{MatchResult-from_err}
 use Rattle.arrayvec.specs.ArrayVec.{array_vec_len}
-use Rattle.terms.proofs.Roots.{rooted_count}
-use Rattle.book.proofs.Places.{rooted_at}
+use Rattle.terms.proofs.Roots.{rooted_at, rooted_count}
 use Rattle.book.proofs.RuleReads.{no_terms, rule_read}
 use Rattle.book.proofs.reader.Reader.rule.Goals as goal
 
@@ -11,8 +10,7 @@ returns-in_err-roots-clause-read c =
     let s = c.args.self.now in
     let h = c.in_ok-header.header in
     let none = rw (c.in_ok-header.ensures.text, c.new.ensures.width) at c.in_err-roots.ensures.read in
-    let p = err_from_is_err_and c.from_residual-in_err-roots.result c.from_residual-in_err-roots.ensures.1 in
-    rw p.1 (no_terms s.text.now s.at c.header.new.self.at h.needed h.width c.in_ok-header.ensures.read none)
+    MatchResult-from_err _ _ _ c.from_residual-in_err-roots.ensures.0 (λ _. no_terms s.text.now s.at c.header.new.self.at h.needed h.width c.in_ok-header.ensures.read none)
 
 -- the roots are places of nodes, of which there are few enough
 pub set_roots-requires : goal.set_roots-requires
