@@ -1,9 +1,10 @@
-// The names of the operations.
+// The names of the operations, and what each word is.
 ghost use Rattle.std.specs.Prelude.{◌≡◌, MatchOption};
 ghost use Rattle.book.specs.Text.{binary_name};
-ghost use Rattle.book.specs.Tokens.{operation_name, NoOperation};
+ghost use Rattle.book.specs.Tokens.{operation_name, NoOperation, Is};
 
-use crate::token::Operation;
+use crate::number::number;
+use crate::token::{Leaf, Operation, Token};
 use words::{BinaryOp, UnaryOp};
 
 const OPERATIONS: [Operation; 17] = [
@@ -70,5 +71,28 @@ impl Operation {
             }
         }
         None
+    }
+}
+
+// What a word is.
+impl From<&[u8]> for Token {
+    ghost from_gives = { λ word token. Is token word.now };
+
+    fn from(word: &[u8]) -> Token {
+        match word {
+            b"any" => Token::Leaf(Leaf::Any),
+            b"con" => Token::Leaf(Leaf::Con),
+            b"lit" => Token::Leaf(Leaf::Lit),
+            b"rule" => Token::Rule,
+            _ => {
+                if let Some(op) = Operation::from_name(word) {
+                    Token::Operation(op)
+                } else if let Some(n) = number(word) {
+                    Token::Number(n)
+                } else {
+                    Token::Other
+                }
+            }
+        }
     }
 }

@@ -2,13 +2,11 @@
 ghost use Rattle.std.specs.Prelude.{◌≡◌, ◌<◌, ◌≤◌, false, not, [], length, drop, Decides, MatchResult, slice_index};
 ghost use Rattle.std.specs.List.{prefix_len};
 ghost use Rattle.book.specs.Text.{blank};
-ghost use Rattle.book.specs.Tokens.{Is};
 ghost use Rattle.book.specs.Scan.{rest, Next};
 ghost use Rattle.book.specs.Reading.{IsNumberRead, NoNumber};
 
 use crate::fault::{Fault, Reason};
-use crate::number::number;
-use crate::token::{Leaf, Operation, Token};
+use crate::token::Token;
 
 // A text, and how far it was read: up to `at`. The last word that was read begins at `start`.
 #[derive(Clone, Copy, Debug)]
@@ -23,27 +21,6 @@ pub(crate) fn is_blank(c: u8) -> bool
     ensures { result ≡ blank c }
 {
     c == b' ' || c == b'\n'
-}
-
-// What a word is.
-fn classify(word: &[u8]) -> Token
-    ensures { Is result word.now }
-{
-    match word {
-        b"any" => Token::Leaf(Leaf::Any),
-        b"con" => Token::Leaf(Leaf::Con),
-        b"lit" => Token::Leaf(Leaf::Lit),
-        b"rule" => Token::Rule,
-        _ => {
-            if let Some(op) = Operation::from_name(word) {
-                Token::Operation(op)
-            } else if let Some(n) = number(word) {
-                Token::Number(n)
-            } else {
-                Token::Other
-            }
-        }
-    }
 }
 
 // How many blanks a text begins with.
@@ -121,7 +98,7 @@ impl<'a> Reader<'a> {
             return Token::End;
         }
         self.at += length;
-        classify(&rest[..length])
+        Token::from(&rest[..length])
     }
 
     // Reads a number.
