@@ -9,7 +9,9 @@ use crate::token::Token;
 use terms::RuleNodes;
 use words::Width;
 
-// The most operations that a rule may have.
+// The most terms that a rule may need, and the most operations that it may have.
+const MOST_NEEDED: u64 = 4;
+
 const MOST_OPERATIONS: usize = 32;
 
 // The head of a rule: its width, and how many terms it needs.
@@ -33,7 +35,7 @@ impl Reader<'_> {
             return Err(self.fault(Reason::WidthExpected));
         };
         let needed = self.number()?;
-        if needed > 4 {
+        if needed > MOST_NEEDED {
             return Err(self.fault(Reason::NeededExpected));
         }
         Ok(Header {

@@ -8,7 +8,7 @@ use crate::fault::Fault;
 use crate::reader::Reader;
 use terms::RuleNodes;
 
-// The rules that were not read yet: there are so many, and then the text ends.
+// The rules of a book that were not read yet, and how many they are. After them the text ends.
 #[derive(Clone, Copy, Debug)]
 pub struct Rules<'a> {
     pub reader: Reader<'a>,
@@ -32,7 +32,7 @@ impl<'a> Rules<'a> {
 impl Iterator for Rules<'_> {
     type Item = RuleNodes;
 
-    ghost next_gives = { λ old rule new. MatchOption rule (old.left ≡ 0) (λ x. IsRuleRead old.reader.text.now old.reader.at x new.reader.at × (new.left + 1 ≡ old.left)) };
+    ghost next_gives = { λ old rule new. (new.reader.text.now ≡ old.reader.text.now) × MatchOption rule (old.left ≡ 0) (λ x. IsRuleRead old.reader.text.now old.reader.at x new.reader.at × (new.left + 1 ≡ old.left)) };
 
     ghost remaining = { λ rs. at_most rs.left };
 

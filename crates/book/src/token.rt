@@ -18,6 +18,7 @@ pub enum Operation {
 }
 
 // What a word is. The end of the text counts as one, and a word that a book can't have is `Other`.
+// An Option in place of `End` was tried: where no pattern fits, nothing is then known of the token inside.
 #[derive(Clone, Copy)]
 pub enum Token {
     End,

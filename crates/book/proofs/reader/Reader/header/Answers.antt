@@ -22,9 +22,9 @@ returns-in_err-needed-clause-read c =
     let needed = rw (c.in_ok-bits.ensures.text ∙ c.next.ensures.text) at c.in_err-needed.ensures.read in
     MatchResult-from_err _ _ _ c.from_residual-in_err-needed.ensures.0 (λ _. needed_no_number c.args.self.now.text.now c.args.self.now.at c.next.new.self.at c.number.new.self.at c.in_ok-bits.bits f bits needed)
 
-pub returns-then-needed-gt4-clause-read : goal.returns-then-needed-gt4-clause-read
-returns-then-needed-gt4-clause-read c =
+pub returns-then-needed-gt-MOST_NEEDED-clause-read : goal.returns-then-needed-gt-MOST_NEEDED-clause-read
+returns-then-needed-gt-MOST_NEEDED-clause-read c =
     let f = c.in-Rule.ensures.next.2 in
     let bits = rw c.next.ensures.text at c.in_ok-bits.ensures.read in
     let needed = rw (c.in_ok-bits.ensures.text ∙ c.next.ensures.text) at c.in_ok-needed.ensures.read in
-    needed_expected c.args.self.now.text.now c.args.self.now.at c.next.new.self.at c.number.new.self.at c.number-2.new.self.at c.in_ok-bits.bits c.in_ok-needed.needed f bits needed c.if-needed-gt4.true
+    needed_expected c.args.self.now.text.now c.args.self.now.at c.next.new.self.at c.number.new.self.at c.number-2.new.self.at c.in_ok-bits.bits c.in_ok-needed.needed f bits needed c.if-needed-gt-MOST_NEEDED.true
