@@ -31,7 +31,7 @@ impl Reader<'_> {
             return Err(self.fault(Reason::RuleExpected));
         };
         let bits = self.number()?;
-        let Some(width) = Width::from_bits(bits) else {
+        let Ok(width) = Width::try_from(bits) else {
             return Err(self.fault(Reason::WidthExpected));
         };
         let needed = self.number()?;

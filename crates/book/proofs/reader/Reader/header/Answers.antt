@@ -9,11 +9,11 @@ returns-in_default c = record {
   read = rule_expected c.args.self.now.text.now c.args.self.now.at c.next.new.self.at c.next.result c.next.ensures.next.2 c.in_default.not-Rule;
 }
 
-pub returns-in_default-from_bits-clause-read : goal.returns-in_default-from_bits-clause-read
-returns-in_default-from_bits-clause-read c =
+pub returns-in_default-try_from-clause-read : goal.returns-in_default-try_from-clause-read
+returns-in_default-try_from-clause-read c =
     let f = c.in-Rule.ensures.next.2 in
     let bits = rw c.next.ensures.text at c.in_ok-bits.ensures.read in
-    width_expected c.args.self.now.text.now c.args.self.now.at c.next.new.self.at c.number.new.self.at c.in_ok-bits.bits f bits c.in_default-from_bits.ensures
+    width_expected c.args.self.now.text.now c.args.self.now.at c.next.new.self.at c.number.new.self.at c.in_ok-bits.bits f bits c.in_default-try_from.ensures.1
 
 pub returns-in_err-needed-clause-read : goal.returns-in_err-needed-clause-read
 returns-in_err-needed-clause-read c =
