@@ -6,3 +6,4 @@ pub mod Books
 pub mod TermReads
 pub mod RuleReads
 pub mod Places
+pub mod Positions

@@ -1,5 +1,5 @@
 -- Reading rules and a book: what a step of it shows, and what a fault shows.
-use Rattle.std.proofs.Common.{◌≡◌, ℕ, zero, suc, ◌+◌, ◌^◌, ◌<◌, ◌≤◌, true, List, [], ◌∷◌, ◌++◌, length, get_or, take, codes, sym, refl, ap, ◌∙◌, subst, append_assoc, append-nil, arith}
+use Rattle.std.proofs.Common.{◌≡◌, ℕ, zero, suc, ◌+◌, ◌-◌, ◌^◌, ◌<◌, ◌≤◌, true, List, [], ◌∷◌, ◌++◌, length, get_or, take, codes, sym, refl, ap, ◌∙◌, subst, append_assoc, append-nil, arith}
 use Rattle.std.proofs.lemmas.List.{length-append, take_more, get_or_at}
 use Rattle.std.proofs.lemmas.Bool.{and_parts, and_from, le-leb, leb-true}
 use Rattle.words.specs.declared.Width.{Width}
@@ -13,7 +13,7 @@ use Rattle.book.specs.declared.token.Token.{Token}
 use Rattle.book.specs.declared.token.Token.TheVariants as token
 use Rattle.book.specs.Text.{decimal, write_terms, write_rule, write_book, ok_rules, Book}
 use Rattle.book.specs.Scan.{rest, At}
-use Rattle.book.specs.Reading.{IsNumberRead, NoNumber, IsTermsRead, NoTerms, IsHeaderRead, NoHeader, IsRuleRead, NoRule, IsRulesRead}
+use Rattle.book.specs.Reading.{IsNumberRead, NoNumber, IsTermsRead, NoTerms, IsHeaderRead, NoHeader, IsRuleRead, NoRule, IsRulesRead, HasRules}
 use Rattle.book.proofs.Unique.{first_same, rest_same, never_empty, decimal_same}
 use Rattle.book.proofs.Books.{limits, length_terms, width_same, bits_short, one_rule, book_begins, no_rules}
 use Rattle.book.proofs.TermReads.{token_at}
@@ -33,9 +33,6 @@ bits_small v = let h = bits_le v in omega arith
 pub rule_expected : (s : List ℕ) (p q : ℕ) (t : Token) → At s p t q → (t ≡ token.Rule → ⊥) → NoHeader s p
 rule_expected s p q t f none v n r few h = none (token_at s p q t token.Rule (codes "rule") _ f refl h).0
 
-pub width_no_number : (s : List ℕ) (p m : ℕ) → At s p token.Rule m → NoNumber s m → NoHeader s p
-width_no_number s p m f none v n r few h = none (bits v) (decimal n ∷ r) (bits_small v) (token_at s p m token.Rule token.Rule (codes "rule") _ f refl h).1
-
 pub width_expected : (s : List ℕ) (p m q b : ℕ) → At s p token.Rule m → IsNumberRead s m b q → ((v : Width) → bits v ≡ b → ⊥) → NoHeader s p
 width_expected s p m q b f num none v n r few h =
     none v (sym (number_same s m q b (bits v) _ num (bits_small v) (token_at s p m token.Rule token.Rule (codes "rule") _ f refl h).1).0)
@@ -52,22 +49,7 @@ needed_expected s p m q z b k f num num' large v n r few h =
     let e = (number_same s q z k n r num' (omega arith) (after_width s p m q b n v r f num h)).0 in
     omega arith
 
-pub header_read : (s : List ℕ) (p m q z b k : ℕ) (v : Width) → At s p token.Rule m → IsNumberRead s m b q → bits v ≡ b → IsNumberRead s q k z → k ≤ 4 → IsHeaderRead s p v k z
-header_read s p m q z b k v f num e num' few =
-    let l₁ = f.longer in
-    let l₂ = num.longer in
-    let l₃ = num'.longer in
-    record {
-      text = f.before ∙ ap (λ w. w ∷ rest s m) f.is ∙ ap (λ ws. codes "rule" ∷ ws) (num.text ∙ ap (λ n. decimal n ∷ rest s q) (sym e) ∙ ap (λ ws. decimal (bits v) ∷ ws) num'.text);
-      few = few;
-      longer = omega arith;
-      within = num'.within;
-    }
-
 -- ---- a rule
-
-pub no_header : (s : List ℕ) (p : ℕ) → NoHeader s p → NoRule s p
-no_header s p none r ws ok h = none r.width (length r.needs) (write_terms (terms r) ++ ws) (limits r ok).few h
 
 pub no_terms : (s : List ℕ) (p m n : ℕ) (v : Width) → IsHeaderRead s p v n m → NoTerms s m (n + 2) 32 v → NoRule s p
 no_terms s p m n v f none r ws ok h =
@@ -110,7 +92,7 @@ rule_read s p m q n left v x y z roots f t xw zw znodes zroots =
       ok = and_from _ _ (le-leb (length parts.0) 4 (omega arith)) (and_from _ _ (le-leb (ops_all (terms r)) 32 (omega arith)) (subst (λ l. ok_terms (bits v) l ≡ true) es (subst (λ u. ok_terms (bits u) t.terms ≡ true) xw t.ok)));
       represents = record {
         width = zw ∙ t.kept.width ∙ xw;
-        rooted = rw (znodes, zroots, ← es) t.rooted;
+        rooted = rw (znodes, zroots) (subst (λ l. Rooted y.nodes.items roots l) es t.rooted);
       };
       longer = omega arith;
       within = t.within;
@@ -129,9 +111,6 @@ rules_append (a ∷ rs) r h k = let p = and_parts _ _ h in and_from _ _ p.0 (rul
 ok_rules_after : (rs cs : List Rule) → ok_rules (rs ++ cs) ≡ true → ok_rules cs ≡ true
 ok_rules_after [] cs h = h
 ok_rules_after (r ∷ rs) cs h = ok_rules_after rs cs (and_parts _ _ h).1
-
-pub no_rules_yet : (s : List ℕ) → IsRulesRead s 0 0
-no_rules_yet s = record { rules = []; count = refl; text = refl; ok = refl; few = omega arith; within = omega arith }
 
 pub one_rule_more : (s : List ℕ) (p q n : ℕ) (x : RuleNodes) → IsRulesRead s p n → n < 256 → IsRuleRead s p x q → IsRulesRead s q (n + 1)
 one_rule_more s p q n x rs lt r =
@@ -202,3 +181,17 @@ next_rule s p q n x rs r bs b =
     let all : bs ≡ rs.rules ++ (r.rule ∷ f.0) = a.1 ∙ ap (λ l. rs.rules ++ l) f.1 in
     let lt : n < length bs = omega (arith, rs.count, ap length all, length-append rs.rules (r.rule ∷ f.0)) in
     take_more bs n r.rule lt ∙ ap (λ y. take n bs ++ (y ∷ [])) (ap (λ l. get_or l n r.rule) all ∙ get_or_at rs.rules r.rule f.0 r.rule n rs.count)
+
+-- ---- the rules that are still to come
+
+-- where rules come, one can be read
+pub rules_there : (s : List ℕ) (p n : ℕ) → HasRules s p n → (n ≡ 0 → ⊥) → NoRule s p → ⊥
+rules_there s p n ([], count, text, ok) some none = some (sym count)
+rules_there s p n (r ∷ rs, count, text, ok) some none = none r (write_book rs) (and_parts _ _ ok).0 text
+
+-- after it come the others
+pub rules_after : (s : List ℕ) (p q n : ℕ) (x : RuleNodes) → HasRules s p n → (n ≡ 0 → ⊥) → IsRuleRead s p x q → HasRules s q (n - 1)
+rules_after s p q n x ([], count, text, ok) some one = absurd (some (sym count))
+rules_after s p q n x (r ∷ rs, count, text, ok) some one =
+    let oks = and_parts _ _ ok in
+    (rs, omega arith, (one_rule one.rule r (rest s q) (write_book rs) one.ok oks.0 (sym one.text ∙ text)).1, oks.1)

@@ -1,7 +1,8 @@
 -- Reading terms: what a step of it shows, and what a fault shows.
-use Rattle.std.proofs.Common.{◌≡◌, ℕ, zero, suc, ◌+◌, ◌^◌, ◌<◌, ◌≤◌, true, false, List, [], ◌∷◌, ◌++◌, length, get_or, set, replicate, sym, refl, ap, ◌∙◌, subst, inl, inr, append_assoc, append-nil, arith}
-use Rattle.std.proofs.lemmas.List.{length-set, length-append, get_or-set_same, get_or-set_other}
-use Rattle.std.proofs.lemmas.Bool.{and_parts, and_from, both_ways, ltb-true, lt-ltb, cases_eq}
+use Rattle.std.proofs.Common.{◌≡◌, ℕ, ◌+◌, ◌^◌, ◌<◌, ◌≤◌, true, false, List, [], ◌∷◌, ◌++◌, length, get_or, sym, refl, ap, ◌∙◌, subst, append_assoc, append-nil, arith}
+use Rattle.arrayvec.specs.ArrayVec.{array_vec_len}
+use Rattle.std.proofs.lemmas.List.{length-append, get_or_at}
+use Rattle.std.proofs.lemmas.Bool.{and_parts, and_from, both_ways, ltb-true, lt-ltb}
 use Rattle.words.specs.declared.Width.{Width}
 use Rattle.words.specs.declared.Width.TheVariants.{W8, W16, W32, W64}
 use Rattle.words.specs.Words.{bits}
@@ -23,8 +24,8 @@ use Rattle.book.specs.Scan.{rest, Found, At}
 use Rattle.book.specs.Reading.{IsNumberRead, NoNumber, Pushed, IsLeafRead, NoLeaf, IsTermRead, NoTerm, IsTermsRead, NoTerms}
 use Rattle.book.proofs.Tokens.{one_token}
 use Rattle.book.proofs.Unique.{first_same, rest_same, never_empty, head, head_writes, Begins, begins, Parts, one, two, three, parts, applied_writes, applied_ok, applied_ops, list_begins, decimal_same}
-use Rattle.book.proofs.Places.{stands_kept, rooted_kept, rooted_more, inside_more, pushed_count, pushed_there, pushed_kept, kept_refl, kept_trans}
 use Rattle.terms.proofs.Roots.{rooted_at}
+use Rattle.book.proofs.Places.{rooted_kept, rooted_push, pushed_kept, kept_trans}
 
 -- ---- the word at a place
 
@@ -101,7 +102,7 @@ pub leaf_read : (s : List ℕ) (p m q left root : ℕ) (l : Leaf) (x x' : RuleNo
 leaf_read s p m q left root l x x' f t =
     let n = t.number in
     let none = leaf_ops l n in
-    let more = pushed_count x x' _ t.pushed in
+    let more = ap length t.pushed.nodes ∙ length-append x.nodes.items (leaf_node l n ∷ []) in
     let a = f.longer in
     let b = t.read.longer in
     let last = t.last in
@@ -113,8 +114,8 @@ leaf_read s p m q left root l x x' f t =
       longer = omega arith;
       within = t.read.within;
       rooted = omega arith;
-      stands = leaf_stands x'.nodes.items root n l (ap (λ i. get_or x'.nodes.items i (node.Any 0)) last ∙ pushed_there x x' _ t.pushed);
-      kept = pushed_kept x x' _ t.pushed;
+      stands = leaf_stands x'.nodes.items root n l (rw (t.pushed.nodes, last) (get_or_at x.nodes.items (leaf_node l n) [] (node.Any 0) _ refl));
+      kept = pushed_kept t.pushed;
       size = omega arith;
     }
 
@@ -123,10 +124,7 @@ leaf_missing s p m left l v f none e r ok small h =
     let b = term_begins s p m (token.Leaf l) f f.is e r h in
     none b.0 r (subst (λ g. ok_term (bits v) g ≡ true) b.1 ok) b.2
 
--- no number, or too large a one
-pub leaf_no_number : (s : List ℕ) (p : ℕ) (l : Leaf) (v : Width) → NoNumber s p → NoLeaf s p l v
-leaf_no_number s p l v none n r ok h = none n r (leaf_small v l n ok) h
-
+-- too large a number
 pub leaf_too_large : (s : List ℕ) (p q n : ℕ) (l : Leaf) (v : Width) → IsNumberRead s p n q → ok_term (bits v) (leaf_term l n) ≡ false → NoLeaf s p l v
 leaf_too_large s p q n l v num bad m r ok h =
     let small_n = num.small in
@@ -136,43 +134,63 @@ leaf_too_large s p q n l v num bad m r ok h =
 
 -- ---- operations
 
-part_stands : {o : Operation} {es : List Term} (ns ms : List Node) (roots : List ℕ) → Parts o es → length ns ≤ length ms → get_or ms (length ns) (node.Any 0) ≡ operation_node o roots → ((k : ℕ) → k < length ns → get_or ms k (node.Any 0) ≡ get_or ns k (node.Any 0)) → Rooted ns roots es → Stands ms (length ns) (applied o es)
-part_stands ns ms roots one le e same r =
-    let p = rooted_at ns roots _ 0 (omega arith) r in
-    (get_or roots 0 0, e, p.0, stands_kept ns ms (length ns) same _ _ p.0 p.1)
-part_stands ns ms roots two le e same r =
-    let p = rooted_at ns roots _ 0 (omega arith) r in
-    let q = rooted_at ns roots _ 1 (omega arith) r in
-    (get_or roots 0 0, get_or roots 1 0, e, p.0, q.0, stands_kept ns ms (length ns) same _ _ p.0 p.1, stands_kept ns ms (length ns) same _ _ q.0 q.1)
-part_stands ns ms roots three le e same r =
-    let p = rooted_at ns roots _ 0 (omega arith) r in
-    let q = rooted_at ns roots _ 1 (omega arith) r in
-    let l = rooted_at ns roots _ 2 (omega arith) r in
-    (get_or roots 0 0, get_or roots 1 0, get_or roots 2 0, e, p.0, q.0, l.0, stands_kept ns ms (length ns) same _ _ p.0 p.1, stands_kept ns ms (length ns) same _ _ q.0 q.1, stands_kept ns ms (length ns) same _ _ l.0 l.1)
+-- the node of an operation, added after its parts, stands for the operation
+part_stands : {o : Operation} {es : List Term} (ns : List Node) (roots : List ℕ) → Parts o es → Rooted ns roots es → Stands (ns ++ operation_node o roots ∷ []) (length ns) (applied o es)
+part_stands ns roots (one {o} {x}) r =
+    let es = x ∷ [] in
+    let kept = rooted_kept ns _ roots es r in
+    (get_or roots 0 0, get_or_at ns _ [] (node.Any 0) (length ns) refl, (rooted_at ns roots es 0 (omega arith) r).0, (rooted_at _ roots es 0 (omega arith) kept).1)
+part_stands ns roots (two {o} {x} {y}) r =
+    let es = x ∷ y ∷ [] in
+    let kept = rooted_kept ns _ roots es r in (
+      get_or roots 0 0,
+      get_or roots 1 0,
+      get_or_at ns _ [] (node.Any 0) (length ns) refl,
+      (rooted_at ns roots es 0 (omega arith) r).0,
+      (rooted_at ns roots es 1 (omega arith) r).0,
+      (rooted_at _ roots es 0 (omega arith) kept).1,
+      (rooted_at _ roots es 1 (omega arith) kept).1,
+    )
+part_stands ns roots (three {t} {x} {y}) r =
+    let es = t ∷ x ∷ y ∷ [] in
+    let kept = rooted_kept ns _ roots es r in (
+      get_or roots 0 0,
+      get_or roots 1 0,
+      get_or roots 2 0,
+      get_or_at ns _ [] (node.Any 0) (length ns) refl,
+      (rooted_at ns roots es 0 (omega arith) r).0,
+      (rooted_at ns roots es 1 (omega arith) r).0,
+      (rooted_at ns roots es 2 (omega arith) r).0,
+      (rooted_at _ roots es 0 (omega arith) kept).1,
+      (rooted_at _ roots es 1 (omega arith) kept).1,
+      (rooted_at _ roots es 2 (omega arith) kept).1,
+    )
 
 -- the node of an operation may be added after its parts
 pub operation_sound : {es : List Term} (w : ℕ) (o : Operation) (ns : List Node) (roots : List ℕ) → Parts o es → Rooted ns roots es → sound w (length ns) (operation_node o roots) ≡ true
-operation_sound w o ns roots one r = lt-ltb _ _ (rooted_at ns roots _ 0 (omega arith) r).0
-operation_sound w o ns roots two r = and_from _ _ (lt-ltb _ _ (rooted_at ns roots _ 0 (omega arith) r).0) (lt-ltb _ _ (rooted_at ns roots _ 1 (omega arith) r).0)
-operation_sound w o ns roots three r = and_from _ _ (lt-ltb _ _ (rooted_at ns roots _ 0 (omega arith) r).0) (and_from _ _ (lt-ltb _ _ (rooted_at ns roots _ 1 (omega arith) r).0) (lt-ltb _ _ (rooted_at ns roots _ 2 (omega arith) r).0))
+operation_sound w o ns roots (one {o = u} {x}) r = lt-ltb _ _ (rooted_at ns roots (x ∷ []) 0 (omega arith) r).0
+operation_sound w o ns roots (two {o = b} {x} {y}) r =
+    and_from _ _ (lt-ltb _ _ (rooted_at ns roots (x ∷ y ∷ []) 0 (omega arith) r).0) (lt-ltb _ _ (rooted_at ns roots (x ∷ y ∷ []) 1 (omega arith) r).0)
+operation_sound w o ns roots (three {t} {x} {y}) r =
+    and_from _ _ (lt-ltb _ _ (rooted_at ns roots (t ∷ x ∷ y ∷ []) 0 (omega arith) r).0)
+    (and_from _ _ (lt-ltb _ _ (rooted_at ns roots (t ∷ x ∷ y ∷ []) 1 (omega arith) r).0) (lt-ltb _ _ (rooted_at ns roots (t ∷ x ∷ y ∷ []) 2 (omega arith) r).0))
 
 pub arity_few : (o : Operation) → arity o ≤ 3
 arity_few (Unary o) = omega arith
 arity_few (Binary o) = omega arith
 arity_few Ite = omega arith
 
-pub operation_read : (s : List ℕ) (p m q left left' : ℕ) (o : Operation) (x y z : RuleNodes) (roots : List ℕ) → At s p (token.Operation o) m → IsTermsRead s m (arity o) left x y roots q left' → Pushed y z (operation_node o roots) → IsTermRead s p (left + 1) x z (length y.nodes.items) q left'
+pub operation_read : (s : List ℕ) (p m q left left' : ℕ) (o : Operation) (x y z : RuleNodes) (roots : List ℕ) → At s p (token.Operation o) m → IsTermsRead s m (arity o) left x y roots q left' → Pushed y z (operation_node o roots) → IsTermRead s p (left + 1) x z (array_vec_len y.nodes) q left'
 operation_read s p m q left left' o x y z roots f t push =
     let es = t.terms in
     let view = parts o es t.count in
     let some = applied_ops view in
-    let more = pushed_count y z _ push in
+    let more = ap length push.nodes ∙ length-append y.nodes.items (operation_node o roots ∷ []) in
     let a = f.longer in
     let b = t.longer in
     let c = t.counted in
     let size = t.size in
     let few = arity_few o in
-    let kept = pushed_kept y z _ push in
     record {
       term = applied o es;
       text = f.before ∙ ap (λ w. w ∷ rest s m) f.is ∙ ap (λ ws. operation_name o ∷ ws) t.text ∙ ap (λ ws. ws ++ rest s q) (sym (applied_writes view));
@@ -181,8 +199,8 @@ operation_read s p m q left left' o x y z roots f t push =
       longer = omega arith;
       within = t.within;
       rooted = omega arith;
-      stands = part_stands y.nodes.items z.nodes.items roots view (omega arith) (pushed_there y z _ push) kept.nodes t.rooted;
-      kept = kept_trans x y z t.kept kept;
+      stands = rw push.nodes (part_stands y.nodes.items roots view t.rooted);
+      kept = kept_trans t.kept (pushed_kept push);
       size = omega arith;
     }
 
@@ -220,28 +238,10 @@ ops_append : (es fs : List Term) → ops_all (es ++ fs) ≡ ops_all es + ops_all
 ops_append [] fs = omega arith
 ops_append (e ∷ es) fs = let h = ops_append es fs in omega arith
 
-pub no_terms_yet : (s : List ℕ) (p left : ℕ) (x : RuleNodes) → p ≤ length s → IsTermsRead s p 0 left x x [] p left
-no_terms_yet s p left x le =
-    record {
-      terms = [];
-      count = refl;
-      text = refl;
-      ok = refl;
-      counted = omega arith;
-      longer = omega arith;
-      within = le;
-      inside = λ k h. absurd (omega arith);
-      rooted = tt;
-      kept = kept_refl x;
-      size = omega arith;
-    }
-
-pub one_term_more : (s : List ℕ) (p q q' n left left' left'' root : ℕ) (x y z : RuleNodes) (roots : List ℕ) → length z.nodes.items ≤ 102 → IsTermsRead s p n left x y roots q left' → IsTermRead s q left' y z root q' left'' → IsTermsRead s p (n + 1) left x z (roots ++ root ∷ []) q' left''
-one_term_more s p q q' n left left' left'' root x y z roots fits t u =
+pub one_term_more : (s : List ℕ) (p q q' n left left' left'' root : ℕ) (x y z : RuleNodes) (roots : List ℕ) → IsTermsRead s p n left x y roots q left' → IsTermRead s q left' y z root q' left'' → IsTermsRead s p (n + 1) left x z (roots ++ root ∷ []) q' left''
+one_term_more s p q q' n left left' left'' root x y z roots t u =
     let es = t.terms in
     let e = u.term in
-    let count = t.count in
-    let below = u.rooted in
     let ends = t.longer in
     let ends' = u.longer in
     let a = t.counted in
@@ -250,19 +250,17 @@ one_term_more s p q q' n left left' left'' root x y z roots fits t u =
     let size' = u.size in
     let all = ops_append es (e ∷ []) in
     let width = t.kept.width in
-    let grows = u.kept.grows in
     record {
       terms = es ++ (e ∷ []);
-      count = length-append es (e ∷ []) ∙ ap (λ k. k + 1) count;
+      count = length-append es (e ∷ []) ∙ ap (λ k. k + 1) t.count;
       text = t.text ∙ ap (λ ws. write_terms es ++ ws) u.text ∙ sym (append_assoc (write_terms es) (write_term e) (rest s q'))
           ∙ ap (λ ws. (write_terms es ++ ws) ++ rest s q') (sym (append-nil (write_term e))) ∙ ap (λ ws. ws ++ rest s q') (sym (writes_append es (e ∷ [])));
       ok = ok_append (bits x.width) es (e ∷ []) t.ok (and_from _ _ (subst (λ v. ok_term (bits v) e ≡ true) width u.ok) refl);
       counted = omega arith;
       longer = omega arith;
       within = u.within;
-      inside = inside_more roots root (omega arith) t.inside;
-      rooted = rooted_more z.nodes.items roots es root e below u.stands (rooted_kept y.nodes.items z.nodes.items grows u.kept.nodes roots es t.rooted);
-      kept = kept_trans x y z t.kept u.kept;
+      rooted = rooted_push z.nodes.items roots es root e (rw u.kept.nodes (rooted_kept y.nodes.items u.kept.more roots es t.rooted)) u.rooted u.stands;
+      kept = kept_trans t.kept u.kept;
       size = omega arith;
     }
 

@@ -1,10 +1,9 @@
 -- What comes of reading numbers, terms and rules from a place of a text on.
-use Rattle.std.specs.Prelude.{◌≡◌, ℕ, ◌+◌, ◌*◌, ◌^◌, ◌<◌, ◌≤◌, true, List, [], ◌∷◌, ◌++◌, length, codes, Result, MatchResult, ◌≢◌, EachIndex, slice_index, slice_index_or}
+use Rattle.std.specs.Prelude.{◌≡◌, ℕ, ◌+◌, ◌*◌, ◌^◌, ◌<◌, ◌≤◌, true, List, [], ◌∷◌, ◌++◌, length, codes, Result, MatchResult, ◌≢◌}
 use Rattle.arrayvec.specs.ArrayVec.{array_vec_len}
 use Rattle.words.specs.declared.Width.{Width}
 use Rattle.words.specs.Words.{bits}
 use Rattle.terms.specs.declared.node.Node.{Node}
-use Rattle.terms.specs.declared.node.Node.TheVariants.{Any}
 use Rattle.terms.specs.declared.rule.RuleNodes.{RuleNodes}
 use Rattle.terms.specs.Terms.{Term, Rule, ops, ops_all}
 use Rattle.terms.specs.Limits.{ok_term, ok_terms, ok_rule}
@@ -26,10 +25,10 @@ pub record IsNumberRead (s : List ℕ) (p n q : ℕ) : Type 0 where
 abbrev pub NoNumber : List ℕ → ℕ → Type 0
 NoNumber s p = (n : ℕ) (r : List (List ℕ)) → n < 2 ^ 64 → rest s p ≢ decimal n ∷ r
 
--- the nodes of x are kept in x', and so is its width
+-- the nodes of x are kept in x', which may have more, and so is its width
 pub record Kept (x x' : RuleNodes) : Type 0 where
-  pub grows : array_vec_len x.nodes ≤ array_vec_len x'.nodes
-  pub nodes : (k : ℕ) → k < array_vec_len x.nodes → slice_index_or x'.nodes.items k (Any 0) ≡ slice_index_or x.nodes.items k (Any 0)
+  pub more : List Node
+  pub nodes : x'.nodes.items ≡ x.nodes.items ++ more
   pub width : x'.width ≡ x.width
 
 -- a node is added to x
@@ -73,7 +72,6 @@ pub record IsTermsRead (s : List ℕ) (p n left : ℕ) (x x' : RuleNodes) (roots
   pub counted : ops_all terms + left' ≡ left
   pub longer : p ≤ q
   pub within : q ≤ length s
-  pub inside : EachIndex roots (λ k. slice_index roots k < 102)
   pub rooted : Rooted x'.nodes.items roots terms
   pub kept : Kept x x'
   pub size : array_vec_len x'.nodes ≤ array_vec_len x.nodes + (3 * ops_all terms + n)
@@ -111,6 +109,10 @@ pub record IsRulesRead (s : List ℕ) (p n : ℕ) : Type 0 where
   pub ok : ok_rules rules ≡ true
   pub few : n ≤ 256
   pub within : p ≤ length s
+
+-- from p to its end the text s has so many rules within the limits, and no other word
+abbrev pub HasRules : List ℕ → ℕ → ℕ → Type 0
+HasRules s p n = (rs : List Rule) × (length rs ≡ n) × (rest s p ≡ write_book rs) × (ok_rules rs ≡ true)
 
 -- What comes of reading a text: it is a book of so many rules, or none; and it is one book at most.
 pub record IsBookRead (s : List ℕ) (r : Result ℕ Fault) : Type 0 where

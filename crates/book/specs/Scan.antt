@@ -2,7 +2,6 @@
 use Rattle.std.specs.Prelude.{◌≡◌, ℕ, ◌<◌, ◌≤◌, List, [], ◌∷◌, length, drop}
 use Rattle.book.specs.declared.token.Token.{Token}
 use Rattle.book.specs.declared.token.Token.TheVariants as token
-use Rattle.book.specs.declared.scan.Word.{Word}
 use Rattle.book.specs.Text.{words}
 use Rattle.book.specs.Tokens.{Is}
 
@@ -27,5 +26,6 @@ At s p (token.Operation o) q = Found s p (token.Operation o) q
 At s p (token.Number n) q = Found s p (token.Number n) q
 At s p token.Other q = Found s p token.Other q
 
-abbrev pub Next : List ℕ → ℕ → Word → Type 0
-Next s p w = (p ≤ w.start) × (w.start ≤ length s) × At s p w.token w.end
+-- the next word from the place p on is the token t, begins at the place start, and ends at q
+abbrev pub Next : List ℕ → ℕ → Token → ℕ → ℕ → Type 0
+Next s p t start q = (p ≤ start) × (start ≤ length s) × At s p t q

@@ -1,8 +1,9 @@
 // Why a text is no book, and where.
+use std::error::Error;
 use std::fmt;
 
 // What is wrong with the word at a fault.
-#[derive(Clone, Copy)]
+#[derive(Clone, Copy, Debug, PartialEq, Eq)]
 pub enum Reason {
     RuleExpected,
     WidthExpected,
@@ -15,7 +16,7 @@ pub enum Reason {
 }
 
 // The place in the text where the word begins that can't stand there.
-#[derive(Clone, Copy)]
+#[derive(Clone, Copy, Debug, PartialEq, Eq)]
 pub struct Fault {
     pub at: usize,
     pub reason: Reason,
@@ -38,3 +39,12 @@ impl fmt::Display for Reason {
         f.write_str(text)
     }
 }
+
+// The place has no meaning without the text, so only the reason is printed.
+impl fmt::Display for Fault {
+    fn fmt<W: fmt::Write>(&self, f: &mut fmt::Formatter<W>) -> fmt::Result {
+        self.reason.fmt(f)
+    }
+}
+
+impl Error for Fault {}

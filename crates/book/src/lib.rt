@@ -6,12 +6,14 @@ mod fault;
 mod name;
 mod number;
 mod place;
+mod reader;
 mod rule;
-mod scan;
+mod rules;
 mod term;
 mod token;
 
 pub use book::read_book;
 pub use fault::{Fault, Reason};
 pub use place::{Position, locate};
-pub use rule::{RuleRead, read_rule};
+pub use reader::Reader;
+pub use rules::Rules;

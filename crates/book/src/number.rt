@@ -1,5 +1,5 @@
 // Decimal numbers.
-ghost use Rattle.std.specs.Prelude.{◌≡◌, ℕ, ◌+◌, ◌-◌, ◌*◌, ◌^◌, ◌<◌, ◌≤◌, length, MatchOption, ◌≢◌};
+ghost use Rattle.std.specs.Prelude.{◌≡◌, ℕ, ◌+◌, ◌-◌, ◌*◌, ◌^◌, ◌<◌, ◌≤◌, MatchOption, ◌≢◌};
 ghost use Rattle.book.specs.Text.{decimal};
 
 // The number `n` with one more digit `c` after it; none if `c` is no digit or the number does not
@@ -7,32 +7,23 @@ ghost use Rattle.book.specs.Text.{decimal};
 fn append_digit(n: u64, c: u8) -> Option<u64>
     ensures { MatchOption result (48 ≤ c → c ≤ 57 → 2 ^ 64 ≤ n * 10 + (c - 48)) (λ m. (m ≡ n * 10 + (c - 48)) × (48 ≤ c) × (c ≤ 57) × (m < 2 ^ 64)) }
 {
-    if c < b'0' || c > b'9' {
+    if !c.is_ascii_digit() {
         return None;
     }
-    let digit = u64::from(c - b'0');
-    if n > (u64::MAX - digit) / 10 {
-        return None;
-    }
-    Some(n * 10 + digit)
+    n.checked_mul(10)?.checked_add(u64::from(c - b'0'))
 }
 
 // The number below 2^64 that a word is in decimal, with no 0 in front.
 pub(crate) fn number(word: &[u8]) -> Option<u64>
     ensures { MatchOption result ((n : ℕ) → n < 2 ^ 64 → word.now ≢ decimal n) (λ n. (word.now ≡ decimal n) × (n < 2 ^ 64)) }
 {
-    if word.len() == 0 {
+    let first = *word.first()?;
+    if first == b'0' && word.len() > 1 {
         return None;
     }
-    if word.len() > 1 && word[0] == b'0' {
-        return None;
-    }
-    let mut n: u64 = 0;
-    for i in 0..word.len() {
-        match append_digit(n, word[i]) {
-            Some(more) => n = more,
-            None => return None,
-        }
+    let mut n = 0;
+    for c in word {
+        n = append_digit(n, *c)?;
     }
     Some(n)
 }

@@ -2,7 +2,7 @@
 use words::{BinaryOp, UnaryOp};
 
 // The kinds of a term without parts; a number comes after each.
-#[derive(Clone, Copy)]
+#[derive(Clone, Copy, Debug, PartialEq, Eq)]
 pub enum Leaf {
     Any,
     Con,
@@ -10,7 +10,7 @@ pub enum Leaf {
 }
 
 // The operations, whose parts come after them.
-#[derive(Clone, Copy)]
+#[derive(Clone, Copy, Debug, PartialEq, Eq)]
 pub enum Operation {
     Unary(UnaryOp),
     Binary(BinaryOp),
@@ -18,7 +18,8 @@ pub enum Operation {
 }
 
 // What a word is. The end of the text counts as one, and a word that a book can't have is `Other`.
-#[derive(Clone, Copy)]
+// An Option in place of `End` was tried: where no pattern fits, nothing is then known of the token inside.
+#[derive(Clone, Copy, Debug, PartialEq, Eq)]
 pub enum Token {
     End,
     Rule,

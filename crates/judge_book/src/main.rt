@@ -3,11 +3,8 @@
 // fault.
 #![tactic(auto)]
 
-ghost use Rattle.std.specs.Prelude.{Ok};
-ghost use Rattle.book.specs.Reading.{IsBookRead};
-
 use anyhow::anyhow;
-use book::{locate, read_book, read_rule};
+use book::{Rules, locate};
 use std::env;
 use std::fs::File;
 use std::io::Read;
@@ -17,40 +14,27 @@ use terms::{usable, weight};
 // is room for every book that isn't mostly blanks.
 const MOST_BYTES: usize = 524_288;
 
-// Fills the buffer from the file as far as either goes, and says how many bytes came.
-fn read_all(file: &mut File, buffer: &mut [u8]) -> anyhow::Result<usize> {
-    let mut filled = 0;
-    for _ in 0..u64::MAX {
-        if filled >= buffer.len() {
-            break;
-        }
-        let more = file.read(&mut buffer[filled..])?;
-        if more == 0 {
-            break;
-        }
-        filled += more;
+// Reads a file that may be a book.
+fn read_text(rt: &HostRuntime, path: &str) -> anyhow::Result<Vec<u8>> {
+    let mut text = Vec::new(rt.alloc());
+    let file = File::open(rt, path)?;
+    file.take(MOST_BYTES as u64 + 1).read_to_end(&mut text)?;
+    if text.len() > MOST_BYTES {
+        return Err(anyhow!("the text has more than 524,288 bytes"));
     }
-    Ok(filled)
+    Ok(text)
 }
 
 // Prints what is known of each rule of a book.
-fn report(rt: &HostRuntime, text: &[u8], rules: usize) -> anyhow::Result<()>
-    requires { IsBookRead text.now (Ok rules) }
-{
-    let mut at = 0;
-    for i in 0..rules {
-        let read = match read_rule(text, at) {
-            Ok(read) => read,
-            Err(_) => unreachable(),
-        };
-        let heavy = weight(&read.rule);
-        let verdict = if usable(&read.rule) {
+fn report(rt: &HostRuntime, rules: Rules<'_>) -> anyhow::Result<()> {
+    for (i, rule) in rules.enumerate() {
+        let heavy = weight(&rule);
+        let verdict = if usable(&rule) {
             "may be used"
         } else {
             "may not be used"
         };
         println!(rt; "rule {}: weight {heavy}, {verdict}", i + 1)?;
-        at = read.end;
     }
     Ok(())
 }
@@ -61,19 +45,12 @@ fn run(rt: &HostRuntime) -> anyhow::Result<()> {
     let Some(path) = arguments.next() else {
         return Err(anyhow!("use: judge_book FILE"));
     };
-    let mut file = File::open(rt, path)?;
-    let mut buffer = vec![in rt.alloc(); 0u8; MOST_BYTES + 1]?;
-    let length = read_all(&mut file, buffer.as_mut_slice())?;
-    if length > MOST_BYTES {
-        return Err(anyhow!("the text has more than 524,288 bytes"));
-    }
-    let text = &buffer.as_slice()[0..length];
-    match read_book(text) {
-        Ok(rules) => report(rt, text, rules),
+    let text = read_text(rt, path.as_str())?;
+    match Rules::of(text.as_slice()) {
+        Ok(rules) => report(rt, rules),
         Err(fault) => {
-            let here = locate(text, fault.at);
-            let reason = fault.reason;
-            println!(rt; "no book: line {}, word {}: {reason}", here.line, here.word)?;
+            let place = locate(text.as_slice(), fault.at);
+            println!(rt; "no book: {place}: {fault}")?;
             Err(anyhow!("no book"))
         }
     }

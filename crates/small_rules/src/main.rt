@@ -2,12 +2,8 @@
 // prints for each book how many of its rules hold and how many fail.
 #![tactic(auto)]
 
-ghost use Rattle.std.specs.Prelude.{Ok};
-ghost use Rattle.book.specs.Reading.{IsBookRead};
-
 use anyhow::anyhow;
-use book::{read_book, read_rule};
-use std::alloc::{AllocError, Global};
+use book::Rules;
 use std::env;
 use std::fs::File;
 use std::io::Read;
@@ -20,32 +16,18 @@ use trial::{Verdict, holds_by_trying};
 // What is read of a book: more than each of the books beside this program has.
 const MOST_BYTES: u64 = 65_536;
 
-// The verdict on each rule of a book, by trying it.
-fn try_rules(alloc: Global, text: &[u8], rules: usize) -> Result<Vec<Verdict>, AllocError>
-    requires { IsBookRead text.now (Ok rules) }
-{
-    let mut verdicts = Vec::new(alloc);
-    let mut at = 0;
-    for _rule in 0..rules {
-        let Ok(read) = read_rule(text, at) else {
-            unreachable!()
-        };
-        verdicts.push(holds_by_trying(&read.rule))?;
-        at = read.end;
-    }
-    Ok(verdicts)
-}
-
 // Prints how many rules of the book in a file hold, and how many fail.
 fn report(rt: &HostRuntime, path: &str) -> anyhow::Result<()> {
     let mut text = Vec::new(rt.alloc());
     File::open(rt, path)?
         .take(MOST_BYTES)
         .read_to_end(&mut text)?;
-    let Ok(rules) = read_book(&text) else {
+    let Ok(rules) = Rules::of(&text) else {
         return Err(anyhow!("no book"));
     };
-    let verdicts = try_rules(rt.alloc(), &text, rules)?;
+    let verdicts: Vec<Verdict> = rules
+        .map(|rule| holds_by_trying(&rule))
+        .collect(rt.alloc())?;
     let hold = verdicts
         .iter()
         .filter(|verdict| matches!(verdict, Verdict::Holds))
@@ -54,7 +36,10 @@ fn report(rt: &HostRuntime, path: &str) -> anyhow::Result<()> {
         .iter()
         .filter(|verdict| matches!(verdict, Verdict::Fails(_)))
         .count();
-    println!(rt; "{path}: {rules} rules, {hold} hold, {fail} fail")?;
+    println!(rt;
+        "{path}: {} rules, {hold} hold, {fail} fail",
+        verdicts.len()
+    )?;
     Ok(())
 }
 

@@ -1,6 +1,5 @@
-use Rattle.std.proofs.Common.{◌≡◌, ◌+◌, ◌≤◌}
-use Rattle.book.specs.Place.{line_at, word_at}
+use Rattle.book.proofs.Positions.{IsCounted}
 use Rattle.book.proofs.place.locate.Given as goal
 
-abbrev pub invariant-loop-k : goal.invariant-loop-k
-invariant-loop-k l = (l.line ≡ line_at l.text l.k) × (l.word ≡ word_at l.text l.k) × (l.line ≤ l.k + 1) × (l.word ≤ l.k + 1)
+abbrev pub invariant-loop-c : goal.invariant-loop-c
+invariant-loop-c l = IsCounted l.text l.c-index l.line l.word l.after_blank

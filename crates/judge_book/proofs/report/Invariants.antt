@@ -1,5 +1,0 @@
-use Rattle.book.specs.Reading.{IsRulesRead}
-use Rattle.judge_book.proofs.report.Given as goal
-
-abbrev pub invariant-loop-i : goal.invariant-loop-i
-invariant-loop-i l = IsRulesRead l.text l.at l.i
