@@ -6,23 +6,6 @@ use Rattle.clauses.specs.Flat.{Well, Within}
 use Rattle.clauses.specs.Numbering.{Inverse, Numbered, Renames, Renamed}
 use Rattle.clauses.proofs.Alikes.{Forms, well_alike}
 
-zeros_get_or : (map : List ℕ) → ((k : ℕ) → k < length map → get_or map k 0 ≡ 0) → (v : ℕ) → get_or map v 0 ≡ 0
-zeros_get_or map z v = elim (cases_lt v (length map)) [ inl l ↦ z v l | inr l ↦ get_or_past map v 0 l ]
-
-pub inverse_none : (map names : List ℕ) → ((k : ℕ) → k < length map → get_or map k 0 ≡ 0) → Inverse map names 0
-inverse_none map names z = record {
-  number = λ v. omega (arith, zeros_get_or map z v);
-  back = λ v f. absurd (f (zeros_get_or map z v));
-  there = λ i l. absurd (omega arith);
-}
-
-pub renames_none : (ws rs map : List ℕ) → Renames ws rs map 0
-renames_none ws rs map = record {
-  ends = λ k l. absurd (omega arith);
-  occurs = λ k l. absurd (omega arith);
-  literals = λ k l. absurd (omega arith);
-}
-
 -- the next number goes to a variable v that has none
 module _ (map names : List ℕ) (count v : ℕ) (was : Inverse map names count) (known : v < length map) (room : count < length names) (none : get_or map v 0 ≡ 0) where
   map_here : get_or (set map v (count + 1)) v 0 ≡ count + 1

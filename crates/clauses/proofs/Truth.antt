@@ -21,7 +21,3 @@ meets_literal s b (suc x) xs f h = h
 pub end_meets : (s : ℕ → Bool) (b : Bool) (x : ℕ) (xs : List ℕ) → x ≡ 0 → b ≡ true → Meets s false xs → Meets s b (x ∷ xs)
 end_meets s b zero xs e t h = (t, h)
 end_meets s b (suc x) xs e t h = absurd (omega arith)
-
-pub meets_end : (s : ℕ → Bool) (b : Bool) (x : ℕ) (xs : List ℕ) → x ≡ 0 → Meets s b (x ∷ xs) → (b ≡ true) × Meets s false xs
-meets_end s b zero xs e h = h
-meets_end s b (suc x) xs e h = absurd (omega arith)

@@ -11,12 +11,6 @@ variable ws k = get_or ws k 0 / 2 - 1
 abbrev sign : List ℕ → List ℕ → ℕ → Bool
 sign map values v = eqb (get_or values (get_or map v 0) 0 % 2) 0
 
-pub written_none : {A : Type 0} (gives : Bool → A → Type 0) (ws map values : List ℕ) (m : List A) → Written gives ws map values m m 0
-written_none gives ws map values m = record {
-  named = λ k d l. absurd (omega arith);
-  other = λ i d f. refl;
-}
-
 module _ {A : Type 0} (gives : Bool → A → Type 0) (ws map values : List ℕ) (m m' : List A) (n : ℕ) (was : Written gives ws map values m m' n) where
   pub written_skip : get_or ws n 0 < 2 → Written gives ws map values m m' (n + 1)
   written_skip small = record {

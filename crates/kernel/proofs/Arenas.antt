@@ -16,13 +16,6 @@ clause_moved ws arena arena' m i i' n same cl = record {
 pub in_clause : (ws arena : List ℕ) (m low high i : ℕ) → Headed ws arena m low high i → (j : ℕ) → i < j → j ≤ i + size arena i → Word m (get_or arena j 0)
 in_clause ws arena m low high i h j a b = subst (λ p. Word m (get_or arena p 0)) (omega arith) (h.clause.words (j - (i + 1)) (omega arith))
 
-pub arena_as : (ws arena arena' : List ℕ) (m low low' high : ℕ) → arena' ≡ arena → low' ≡ low → IsArena ws arena m low high → IsArena ws arena' m low' high
-arena_as ws arena arena' m low low' high ea el h = subst (λ a. IsArena ws a m low' high) (sym ea) (subst (λ l. IsArena ws arena m l high) (sym el) h)
-
--- no header at all
-pub empty_arena : (ws arena : List ℕ) (m : ℕ) → ((k : ℕ) → k < length arena → get_or arena k 0 ≡ 0) → IsArena ws arena m 0 (length arena)
-empty_arena ws arena m z = record { order = omega arith; fits = omega arith; headed = λ i l h. absurd (omega (arith, z i l)) }
-
 module _ (ws arena : List ℕ) (m low high : ℕ) (ar : IsArena ws arena m low high) where
   -- there is no header in the gap
   pub gap_clear : (p : ℕ) → low ≤ p → p < high → get_or arena p 0 < head

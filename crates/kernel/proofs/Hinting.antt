@@ -25,14 +25,6 @@ own_set values h x half own k l f =
     (λ ne. ap (λ (y : ℕ). y / 2) (get_or-set_other values h k x 0 ne) ∙ own k (omega arith) (λ z. f (get_or-set_other values h k x 0 ne ∙ z)))
     (cases_eq k h)
 
--- no literal is denied as yet; and one more is, by x
-pub denied_none : (values lits : List ℕ) → ((k : ℕ) → k < length values → get_or values k 0 ≡ 0) → Denied values lits 0
-denied_none values lits clean = record {
-  words = λ j l. absurd (omega arith);
-  own = λ k l f. absurd (f (clean k l));
-  agrees = λ s no k l f. absurd (f (clean k l));
-}
-
 pub denied_more : (values lits : List ℕ) (i x : ℕ) → Word (length values) (get_or lits i 0) → get_or lits i 0 / 2 ≡ x / 2 → (get_or lits i 0 ≡ x → ⊥) → Denied values lits i → Denied (set values (get_or lits i 0 / 2) x) lits (i + 1)
 denied_more values lits i x w half ne was =
     let long = length-set values (get_or lits i 0 / 2) x in
@@ -47,9 +39,6 @@ pub record Hinted (ws values lits : List ℕ) : Type 0 where
   pub words : (j : ℕ) → j < length lits → Word (length values) (get_or lits j 0)
   pub own : Own values
   pub agrees : (s : ℕ → Bool) → Model s ws → ((j : ℕ) → j < length lits → lit_truth s (get_or lits j 0) ≡ false) → Agrees s values
-
-pub hinted_start : (ws values lits : List ℕ) → Denied values lits (length lits) → Hinted ws values lits
-hinted_start ws values lits d = record { words = d.words; own = d.own; agrees = λ s m. d.agrees s }
 
 pub hinted_more : (ws values lits : List ℕ) (x : ℕ) → Forced ws values x → Hinted ws values lits → Hinted ws (set values (x / 2) x) lits
 hinted_more ws values lits x f h = record {

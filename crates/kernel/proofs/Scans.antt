@@ -55,12 +55,6 @@ pub record Scan (ws vs : List ℕ) (i : ℕ) (b : Bool) : Type 0 where
   pub on : (s : ℕ → Bool) → Agrees s vs → Model s ws → Meets s b (drop i ws)
   pub back : (s : ℕ → Bool) → ((k : ℕ) → k < length ws → (get_or ws k 0 ≡ 0 → ⊥) → Open vs (get_or ws k 0) → lit_truth s (get_or ws k 0) ≡ true) → Meets s b (drop i ws) → Model s ws
 
-pub scan_start : (ws vs : List ℕ) → Scan ws vs 0 false
-scan_start ws vs = record { on = λ s a m. m; back = λ s a m. m }
-
-pub scan_clear : (ws vs : List ℕ) (i : ℕ) (b : Bool) → length ws ≤ i → Scan ws vs i b → Clear ws vs
-scan_clear ws vs i b l h s a = h.back s a (subst (Meets s b) (sym (drop_all i ws l)) tt)
-
 module _ (ws vs : List ℕ) (i : ℕ) (b : Bool) (l : i < length ws) (was : Scan ws vs i b) where
   split : drop i ws ≡ get_or ws i 0 ∷ drop (i + 1) ws
   split = drop_more ws i 0 l

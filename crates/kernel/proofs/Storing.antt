@@ -98,9 +98,6 @@ stored ws was arena src m low high at n ar cl room long st =
           (cases_lt i low);
     }
 
-pub stored_header : (arena : List ℕ) (low n : ℕ) → low < length arena → get_or (set arena low (head + n)) low 0 ≡ head + n
-stored_header arena low n l = get_or-set_same arena low (head + n) 0 l
-
 pub dropped_clause : (ws arena : List ℕ) (m low c : ℕ) → IsArena ws arena m low c → Header arena c → Clause ws (set arena c 0) m (c + 1) (size arena c)
 dropped_clause ws arena m low c ar hd = clause_moved ws arena (set arena c 0) m (c + 1) (c + 1) (size arena c) (λ k b. get_or-set_other arena c (c + 1 + k) 0 0 (λ e. omega arith)) (ar.headed c hd.below hd.high).clause
 

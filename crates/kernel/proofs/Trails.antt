@@ -257,15 +257,6 @@ none_here ks n h none p b z =
 pub few : (ws vs ts ks : List ℕ) (n : ℕ) → State ws vs ts ks n → (n ≤ length ks) × (n ≤ length ts)
 few ws vs ts ks n st = (omega (arith, st.trail.counted, st.room), omega (arith, st.trail.counted, st.trail.room))
 
--- literals are freed
-pub cut_state : (ws vs us ts ks : List ℕ) (n k : ℕ) → State ws vs ts ks n → k ≤ n → IsTrail us ts k → length us ≡ length vs → State ws us ts ks k
-cut_state ws vs us ts ks n k was le now e = record {
-  trail = now;
-  sound = sound_less ws ts ks k n le was.sound;
-  within = λ j h. omega (arith, was.within j h);
-  room = omega (arith, was.room);
-}
-
 pub forced_entails : (ws vs ts : List ℕ) (n x : ℕ) → IsTrail vs ts n → Forced ws vs x → Entails ws ts n x
 forced_entails ws vs ts n x was f s md h = f.holds s (trail_agrees vs ts n was s h) md
 
@@ -286,9 +277,6 @@ falls t t' step =
 -- steps on, one after another
 pub went_none : (t : Trailed) → Went t t
 went_none t = record { clauses = refl; long = refl; more = omega arith }
-
-pub went_further : (t t' t'' : Trailed) → Went t t' → Further t' t'' → Went t t''
-went_further t t' t'' w f = record { clauses = f.clauses ∙ w.clauses; long = f.long ∙ w.long; more = omega (arith, w.more, f.more) }
 
 pub went_on : (t t' t'' : Trailed) → Went t t' → Went t' t'' → Went t t''
 went_on t t' t'' w v = record { clauses = v.clauses ∙ w.clauses; long = v.long ∙ w.long; more = omega (arith, w.more, v.more) }

@@ -13,8 +13,3 @@ turned_further t t' b f = record { clauses = f.clauses; long = f.long; turn = le
 -- any trail, for one of the budget
 pub turned_over : (t t' : Trailed) (b b' : ℕ) → t'.clauses ≡ t.clauses → length t'.values ≡ length t.values → 0 < b → b' ≡ b - 1 → Turned t b t' b' None
 turned_over t t' b b' c l some e = record { clauses = c; long = l; turn = rw e (left_over t t' b l some) }
-
--- a turn after steps on
-pub turned_after : (t t' t'' : Trailed) (b b' : ℕ) (r : Option Answer) → Went t t' → Turned t' b t'' b' r → Turned t b t'' b' r
-turned_after t t' t'' b b' None w h = record { clauses = h.clauses ∙ w.clauses; long = h.long ∙ w.long; turn = omega (arith, h.turn, left_went t t' b w) }
-turned_after t t' t'' b b' (Some a) w h = record { clauses = h.clauses ∙ w.clauses; long = h.long ∙ w.long; turn = h.turn }
