@@ -6,7 +6,8 @@ use Rattle.circuit.specs.declared.gates.Folded.TheVariants.{Wire, And, Or, Gate}
 use Rattle.circuit.specs.declared.gates.Bitwise.{Bitwise}
 use Rattle.circuit.specs.declared.gates.Bitwise.TheVariants.{Conjunction, Disjunction, Exclusive}
 use Rattle.circuit.specs.Bits.{fill, lower, top, moved}
-use Rattle.circuit.specs.Nets.{Net, high, low, negated, said, fresh, taken}
+use Rattle.clauses.specs.Literals.{negated}
+use Rattle.circuit.specs.Nets.{Net, high, low, said, fresh, taken}
 use Rattle.circuit.specs.Gates.{and_rows, xor_rows, majority_rows, choice_rows, gate, fold_and, fold_xor, fold_majority, fold_choice, wire_or, smaller_or, and_n, or_n, xor_n, majority_n, choice_n}
 use Rattle.circuit.specs.Circuits.{bit_n, bitwise_n, choose_n, full_n, add_n, borrow_n, less_n, equal_n, any_n, shift_n, row_n, product_n, denied_n, none_n, apart_n, equated_n, unless_n}
 use Rattle.circuit.specs.Parts.{equal_bit_n, row_bit_n, product_row_n, sums_n, bounded_n}

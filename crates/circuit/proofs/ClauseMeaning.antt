@@ -6,7 +6,8 @@ use Rattle.words.specs.Words.{xor}
 use Rattle.clauses.specs.declared.literal.Literal.{Literal}
 use Rattle.clauses.specs.Flat.{Model}
 use Rattle.circuit.specs.Bits.{not_b, equal_b, lower, top, none_b, apart_b, all_b}
-use Rattle.circuit.specs.Nets.{Net, negated, said}
+use Rattle.clauses.specs.Literals.{negated}
+use Rattle.circuit.specs.Nets.{Net, said}
 use Rattle.circuit.specs.Circuits.{denied_n, none_n, apart_n, equated_n, unless_n}
 use Rattle.circuit.specs.Meaning.{truth_of, Below, WordBelow, Whole, Carries, Spells}
 use Rattle.circuit.proofs.Models.{some, truth_negated, below_negated, word_lift, said_parts, said_both, said_well, said_below}

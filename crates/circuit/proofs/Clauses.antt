@@ -3,7 +3,8 @@ use Rattle.std.proofs.Common.{◌≡◌, ℕ, zero, suc, ◌+◌, ◌-◌, ◌<�
 use Rattle.std.proofs.lemmas.List.{at_drop_more, at_drop_all, take_all}
 use Rattle.clauses.specs.declared.literal.Literal.{Literal}
 use Rattle.circuit.specs.Bits.{top}
-use Rattle.circuit.specs.Nets.{Net, negated, said}
+use Rattle.clauses.specs.Literals.{negated}
+use Rattle.circuit.specs.Nets.{Net, said}
 use Rattle.circuit.specs.Circuits.{denied_n, none_n, apart_n, equated_n, unless_n}
 use Rattle.circuit.proofs.Steps.{blank}
 use Rattle.circuit.proofs.ProductLoops.{lower_take}

@@ -4,7 +4,8 @@ use Rattle.std.proofs.lemmas.Bool.{and_parts, and_from}
 use Rattle.clauses.specs.declared.literal.Literal.{Literal}
 use Rattle.clauses.specs.Flat.{Model}
 use Rattle.circuit.specs.Bits.{not_b, add_b, carry_b, ult_b, equal_b, any_b, mul_b, carries_b, all_b, divides_b}
-use Rattle.circuit.specs.Nets.{Net, low, negated, said}
+use Rattle.clauses.specs.Literals.{negated}
+use Rattle.circuit.specs.Nets.{Net, low, said}
 use Rattle.circuit.specs.Circuits.{add_n, less_n, any_n, equated_n, unless_n, divides_n}
 use Rattle.circuit.specs.Meaning.{truth_of, Agree, WordBelow, Whole, Defines, Spells}
 use Rattle.circuit.proofs.Models.{truth_agree}

@@ -3,7 +3,8 @@ use Rattle.std.proofs.Common.{◌≡◌, ℕ, suc, ◌+◌, ◌-◌, ◌<◌, �
 use Rattle.std.proofs.lemmas.List.{at_drop_more, at_drop_all, take_all, take_more_set, replicate_more}
 use Rattle.clauses.specs.declared.literal.Literal.{Literal}
 use Rattle.circuit.specs.Bits.{fill, flag, top, top_of}
-use Rattle.circuit.specs.Nets.{low, negated}
+use Rattle.clauses.specs.Literals.{negated}
+use Rattle.circuit.specs.Nets.{low}
 use Rattle.circuit.specs.Circuits.{inverted}
 use Rattle.circuit.proofs.Steps.{blank}
 

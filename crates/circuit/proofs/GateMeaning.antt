@@ -7,7 +7,8 @@ use Rattle.clauses.specs.declared.literal.Literal.{Literal}
 use Rattle.clauses.specs.Flat.{lit_truth, Model}
 use Rattle.circuit.specs.declared.gates.Folded.{Folded}
 use Rattle.circuit.specs.Bits.{maj}
-use Rattle.circuit.specs.Nets.{Net, high, low, negated, same, fresh}
+use Rattle.clauses.specs.Literals.{negated}
+use Rattle.circuit.specs.Nets.{Net, high, low, same, fresh}
 use Rattle.circuit.specs.Gates.{and_rows, xor_rows, majority_rows, choice_rows, gate, wire_or, smaller_or, and_n, or_n, xor_n, majority_n, choice_n}
 use Rattle.circuit.specs.Meaning.{truth_of, Below, Whole, Carries, Makes}
 use Rattle.circuit.proofs.Models.{every, ClausesBelow, truth_negated, below_negated, below_lift, truth_agree}

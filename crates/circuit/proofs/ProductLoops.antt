@@ -3,13 +3,12 @@ use Rattle.std.proofs.Common.{◌≡◌, ℕ, zero, suc, ◌+◌, ◌-◌, ◌<�
 use borrow.Rule.Slice.PartMut.{put_mid}
 use Rattle.std.proofs.lemmas.List.{take_all, take_rest, drop_all, drop_at, drop-drop, drop-set, length-take-le, length-drop}
 use Rattle.clauses.specs.declared.literal.Literal.{Literal}
-use Rattle.circuit.specs.declared.builder.Builder.{Builder}
 use Rattle.circuit.specs.Bits.{lower}
 use Rattle.circuit.specs.Nets.{Net, low}
 use Rattle.circuit.specs.Gates.{and_n}
 use Rattle.circuit.specs.Circuits.{row_n, product_n}
 use Rattle.circuit.specs.Parts.{product_row_n}
-use Rattle.circuit.specs.Built.{built, Wrote}
+use Rattle.circuit.specs.Built.{Written, Wrote}
 use Rattle.circuit.proofs.Growing.{Grows, grows_same, grows_then}
 use Rattle.circuit.proofs.Circuits.{product_row_grows}
 use Rattle.circuit.proofs.Steps.{blank}
@@ -90,7 +89,7 @@ row_is xs ys os cs i n m pos h e o is =
     rows_more xs ys k n (omega arith) e ∙ ap (λ j. under (get_or xs k blank) (take (length xs - k) ys) (rows_from j xs ys n)) up ∙ ap (under (get_or xs k blank) (take (length xs - k) ys)) is
     ∙ ap (λ j. row (take j ys) (drop i os)) (sym width) ∙ ap (row (take (length xs - k - 0) ys)) (sym part)
 
-pub row_again : {b b' : Builder} (xs ys os cs new : List Literal) (over : Literal) (i : ℕ) (n m : Net) → 0 < i → i ≤ length xs → length ys ≡ length xs → length os ≡ length xs → length cs ≡ length xs → rows_from i xs ys n ≡ (m, (drop i os, drop i cs)) → let r = row_at (i - 1) xs ys os m in Wrote b b' r.0 → new ≡ r.1.0 → over ≡ r.1.1 → rows_from (i - 1) xs ys n ≡ (built b', (drop (i - 1) (put_mid (i - 1) (length xs - (i - 1)) os new), drop (i - 1) (set cs (i - 1) over)))
+pub row_again : {b b' : Written} (xs ys os cs new : List Literal) (over : Literal) (i : ℕ) (n m : Net) → 0 < i → i ≤ length xs → length ys ≡ length xs → length os ≡ length xs → length cs ≡ length xs → rows_from i xs ys n ≡ (m, (drop i os, drop i cs)) → let r = row_at (i - 1) xs ys os m in Wrote b b' r.0 → new ≡ r.1.0 → over ≡ r.1.1 → rows_from (i - 1) xs ys n ≡ (b'.net, (drop (i - 1) (put_mid (i - 1) (length xs - (i - 1)) os new), drop (i - 1) (set cs (i - 1) over)))
 row_again {b} {b'} xs ys os cs new over i n m pos h e o c is w en eo =
     let k = i - 1 in
     let r = row_at k xs ys os m in

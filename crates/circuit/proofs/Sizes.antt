@@ -16,7 +16,8 @@ use Rattle.circuit.specs.declared.gates.Bitwise.TheVariants.{Conjunction, Disjun
 use Rattle.circuit.specs.declared.gates.Folded.{Folded}
 use Rattle.circuit.specs.declared.gates.Folded.TheVariants.{Wire, And as AndF, Or as OrF, Gate}
 use Rattle.circuit.specs.Bits.{fill, lower, top, top_of, topped, moved}
-use Rattle.circuit.specs.Nets.{Net, high, low, negated, clause, said, said_all, fresh, taken, wires, free}
+use Rattle.clauses.specs.Literals.{negated}
+use Rattle.circuit.specs.Nets.{Net, high, low, clause, said, said_all, fresh, taken, wires, free}
 use Rattle.circuit.specs.Gates.{and_rows, xor_rows, majority_rows, choice_rows, gate, fold_and, fold_xor, fold_majority, fold_choice, wire_or, smaller_or, and_n, or_n, xor_n, majority_n, choice_n}
 use Rattle.circuit.specs.Circuits.{inverted, bit_n, bitwise_n, choose_n, full_n, add_n, borrow_n, less_n, equal_n, any_n, ite_n, shift_n, row_n, product_n, denied_n, none_n, apart_n, equated_n, unless_n, divide_n, unary_n, binary_n}
 use Rattle.circuit.specs.Sizes.{Grows}

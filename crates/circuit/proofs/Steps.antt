@@ -5,7 +5,8 @@ use Rattle.std.proofs.lemmas.Bool.{lt-ltb, le-ltb, cond-true, cond-false}
 use Rattle.clauses.specs.declared.literal.Literal.{Literal}
 use Rattle.circuit.specs.declared.gates.Bitwise.{Bitwise}
 use Rattle.circuit.specs.Bits.{fill, moved}
-use Rattle.circuit.specs.Nets.{Net, low, negated}
+use Rattle.clauses.specs.Literals.{negated}
+use Rattle.circuit.specs.Nets.{Net, low}
 use Rattle.circuit.specs.Gates.{or_n, majority_n, choice_n}
 use Rattle.circuit.specs.Circuits.{turned, bit_n, bitwise_n, choose_n, full_n, add_n, borrow_n, equal_n, any_n, shift_n, row_n}
 use Rattle.circuit.specs.Parts.{equal_bit_n, row_bit_n}

@@ -8,7 +8,8 @@ use Rattle.clauses.specs.declared.literal.Literal.{Literal}
 use Rattle.circuit.specs.declared.gates.Bitwise.{Bitwise}
 use Rattle.circuit.specs.declared.gates.Bitwise.TheVariants.{Conjunction, Disjunction, Exclusive}
 use Rattle.circuit.specs.Bits.{fill, flag, topped, lower, top, top_of, moved}
-use Rattle.circuit.specs.Nets.{Net, high, low, negated, said, wires, free}
+use Rattle.clauses.specs.Literals.{negated}
+use Rattle.circuit.specs.Nets.{Net, high, low, said, wires, free}
 use Rattle.circuit.specs.Gates.{and_n, or_n, xor_n, majority_n, choice_n}
 
 abbrev pub inverted : List Literal → List Literal

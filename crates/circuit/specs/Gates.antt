@@ -4,7 +4,8 @@ use Rattle.std.specs.Prelude.{cond, List, [], ◌∷◌}
 use Rattle.clauses.specs.declared.literal.Literal.{Literal}
 use Rattle.circuit.specs.declared.gates.Folded.{Folded}
 use Rattle.circuit.specs.declared.gates.Folded.TheVariants.{Wire, And, Or, Gate}
-use Rattle.circuit.specs.Nets.{Net, high, low, negated, same, said_all, fresh, taken}
+use Rattle.clauses.specs.Literals.{negated}
+use Rattle.circuit.specs.Nets.{Net, high, low, same, said_all, fresh, taken}
 
 -- the clauses of an output o over its inputs
 abbrev pub and_rows : Literal → Literal → Literal → List (List Literal)

@@ -14,9 +14,6 @@ high = record { 0 = 2 }
 abbrev pub low : Literal
 low = record { 0 = 3 }
 
-abbrev pub negated : Literal → Literal
-negated l = record { 0 = cond (l.0 % 2 == 0) (l.0 + 1) (l.0 - 1) }
-
 abbrev pub same : Literal → Literal → Bool
 same a b = a.0 == b.0
 

@@ -2,7 +2,8 @@
 use Rattle.std.specs.Prelude.{ℕ, Bool, true, false, List, [], ◌∷◌, ◌++◌}
 use Rattle.clauses.specs.declared.literal.Literal.{Literal}
 use Rattle.circuit.specs.Bits.{topped}
-use Rattle.circuit.specs.Nets.{Net, low, negated, said}
+use Rattle.clauses.specs.Literals.{negated}
+use Rattle.circuit.specs.Nets.{Net, low, said}
 use Rattle.circuit.specs.Gates.{and_n, xor_n}
 use Rattle.circuit.specs.Circuits.{full_n, add_n, less_n, any_n, row_n, equated_n, unless_n}
 

@@ -1,10 +1,10 @@
 // Sums of words by a ripple of carries.
 ghost use Rattle.std.specs.Prelude.{◌≡◌, length, if◌then◌else◌};
-ghost use Rattle.circuit.specs.Nets.{negated as opposite};
+ghost use Rattle.clauses.specs.Literals.{negated as opposite};
 ghost use Rattle.circuit.specs.Circuits.{turned, full_n, add_n};
-ghost use Rattle.circuit.specs.Built.{built, Fits, Wrote};
+ghost use Rattle.circuit.specs.Built.{Fits, Wrote};
 
-use crate::builder::{Builder, negated};
+use crate::builder::{Builder};
 use clauses::Literal;
 
 // The sum of three bits.
@@ -18,16 +18,16 @@ pub struct Sum {
 fn turn(literal: Literal, invert: bool) -> Literal
     ensures { result ≡ (if invert then opposite literal else literal) }
 {
-    if invert { negated(literal) } else { literal }
+    if invert { literal.negated() } else { literal }
 }
 
 impl Builder<'_> {
     // A full adder.
     pub fn full(&mut self, x: Literal, y: Literal, carry: Literal) -> Sum
-        requires { Fits self.old (full_n x y carry (built self.old)).0 }
-        ensures wrote { Wrote self.old self.new (full_n x y carry (built self.old)).0 }
-        ensures bit { result.bit ≡ (full_n x y carry (built self.old)).1.0 }
-        ensures over { result.carry ≡ (full_n x y carry (built self.old)).1.1 }
+        requires { Fits self.old (full_n x y carry self.old.net).0 }
+        ensures wrote { Wrote self.old self.new (full_n x y carry self.old.net).0 }
+        ensures bit { result.bit ≡ (full_n x y carry self.old.net).1.0 }
+        ensures over { result.carry ≡ (full_n x y carry self.old.net).1.1 }
     {
         let half = self.xor(x, y);
         let bit = self.xor(half, carry);
@@ -46,10 +46,10 @@ impl Builder<'_> {
     ) -> Literal
         requires operand { length y.now ≡ length x.now }
         requires word { length out.old ≡ length x.now }
-        requires room { Fits self.old (add_n x.now (turned invert y.now) carry (built self.old)).0 }
-        ensures wrote { Wrote self.old self.new (add_n x.now (turned invert y.now) carry (built self.old)).0 }
-        ensures sum { out.new ≡ (add_n x.now (turned invert y.now) carry (built self.old)).1.0 }
-        ensures over { result ≡ (add_n x.now (turned invert y.now) carry (built self.old)).1.1 }
+        requires room { Fits self.old (add_n x.now (turned invert y.now) carry self.old.net).0 }
+        ensures wrote { Wrote self.old self.new (add_n x.now (turned invert y.now) carry self.old.net).0 }
+        ensures sum { out.new ≡ (add_n x.now (turned invert y.now) carry self.old.net).1.0 }
+        ensures over { result ≡ (add_n x.now (turned invert y.now) carry self.old.net).1.1 }
     {
         let mut over = carry;
         for i in 0..x.len() {

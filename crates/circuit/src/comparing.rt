@@ -3,9 +3,9 @@ ghost use Rattle.std.specs.Prelude.{◌≡◌, ◌<◌, length, slice_index_or};
 ghost use Rattle.circuit.specs.Nets.{high, low};
 ghost use Rattle.circuit.specs.Circuits.{less_n, equal_n, any_n};
 ghost use Rattle.circuit.specs.Parts.{compared, equal_bit_n};
-ghost use Rattle.circuit.specs.Built.{built, Fits, Wrote};
+ghost use Rattle.circuit.specs.Built.{Fits, Wrote};
 
-use crate::builder::{Builder, HIGH, LOW, negated};
+use crate::builder::{Builder, HIGH, LOW};
 use clauses::Literal;
 
 // Bit i of x as it is compared with y: as two's complement the top bits change places.
@@ -25,37 +25,37 @@ impl Builder<'_> {
     // Whether x is below y, without sign or as two's complement: whether x - y borrows.
     pub fn less(&mut self, x: &[Literal], y: &[Literal], signed: bool) -> Literal
         requires operand { length y.now ≡ length x.now }
-        requires room { Fits self.old (less_n (compared signed x.now y.now) (compared signed y.now x.now) (built self.old)).0 }
-        ensures wrote { Wrote self.old self.new (less_n (compared signed x.now y.now) (compared signed y.now x.now) (built self.old)).0 }
-        ensures output { result ≡ (less_n (compared signed x.now y.now) (compared signed y.now x.now) (built self.old)).1 }
+        requires room { Fits self.old (less_n (compared signed x.now y.now) (compared signed y.now x.now) self.old.net).0 }
+        ensures wrote { Wrote self.old self.new (less_n (compared signed x.now y.now) (compared signed y.now x.now) self.old.net).0 }
+        ensures output { result ≡ (less_n (compared signed x.now y.now) (compared signed y.now x.now) self.old.net).1 }
     {
         let mut enough = HIGH;
         for i in 0..x.len() {
             let left = compared_bit(x, y, signed, i);
             let right = compared_bit(y, x, signed, i);
-            let inverse = negated(right);
+            let inverse = right.negated();
             enough = self.majority(left, inverse, enough);
         }
-        negated(enough)
+        enough.negated()
     }
 
     // Whether two bits are equal, and the bits so far.
     fn equal_bit(&mut self, x: Literal, y: Literal, before: Literal) -> Literal
-        requires { Fits self.old (equal_bit_n x y before (built self.old)).0 }
-        ensures wrote { Wrote self.old self.new (equal_bit_n x y before (built self.old)).0 }
-        ensures output { result ≡ (equal_bit_n x y before (built self.old)).1 }
+        requires { Fits self.old (equal_bit_n x y before self.old.net).0 }
+        ensures wrote { Wrote self.old self.new (equal_bit_n x y before self.old.net).0 }
+        ensures output { result ≡ (equal_bit_n x y before self.old.net).1 }
     {
         let apart = self.xor(x, y);
-        let alike = negated(apart);
+        let alike = apart.negated();
         self.and(before, alike)
     }
 
     // Whether x and y are equal.
     pub fn equal(&mut self, x: &[Literal], y: &[Literal]) -> Literal
         requires operand { length y.now ≡ length x.now }
-        requires room { Fits self.old (equal_n x.now y.now high (built self.old)).0 }
-        ensures wrote { Wrote self.old self.new (equal_n x.now y.now high (built self.old)).0 }
-        ensures output { result ≡ (equal_n x.now y.now high (built self.old)).1 }
+        requires room { Fits self.old (equal_n x.now y.now high self.old.net).0 }
+        ensures wrote { Wrote self.old self.new (equal_n x.now y.now high self.old.net).0 }
+        ensures output { result ≡ (equal_n x.now y.now high self.old.net).1 }
     {
         let mut so_far = HIGH;
         for i in 0..x.len() {
@@ -66,9 +66,9 @@ impl Builder<'_> {
 
     // Whether x has a 1.
     pub fn any(&mut self, x: &[Literal]) -> Literal
-        requires { Fits self.old (any_n x.now low (built self.old)).0 }
-        ensures wrote { Wrote self.old self.new (any_n x.now low (built self.old)).0 }
-        ensures output { result ≡ (any_n x.now low (built self.old)).1 }
+        requires { Fits self.old (any_n x.now low self.old.net).0 }
+        ensures wrote { Wrote self.old self.new (any_n x.now low self.old.net).0 }
+        ensures output { result ≡ (any_n x.now low self.old.net).1 }
     {
         let mut so_far = LOW;
         for i in 0..x.len() {

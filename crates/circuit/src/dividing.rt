@@ -3,40 +3,40 @@
 ghost use Rattle.std.specs.Prelude.{◌≡◌, ◌≤◌, length};
 ghost use Rattle.circuit.specs.Circuits.{denied_n, none_n, apart_n, equated_n, unless_n, divides_n};
 ghost use Rattle.circuit.specs.Parts.{sums_n, bounded_n};
-ghost use Rattle.circuit.specs.Built.{built, Fits, Wrote};
+ghost use Rattle.circuit.specs.Built.{Fits, Wrote};
 
-use crate::builder::{Builder, LOW, negated};
+use crate::builder::{Builder, LOW};
 use clauses::Literal;
 
 impl Builder<'_> {
     // x has no 1.
     fn deny(&mut self, x: &[Literal])
-        requires { Fits self.old (denied_n x.now (built self.old)) }
-        ensures { Wrote self.old self.new (denied_n x.now (built self.old)) }
+        requires { Fits self.old (denied_n x.now self.old.net) }
+        ensures { Wrote self.old self.new (denied_n x.now self.old.net) }
     {
         for i in 0..x.len() {
-            let off = negated(x[i]);
-            self.clause1(off);
+            let off = x[i].negated();
+            self.clause(&[off]);
         }
     }
 
     // No bit of x is 1 together with b.
     fn exclude(&mut self, b: Literal, x: &[Literal])
-        requires { Fits self.old (none_n b x.now (built self.old)) }
-        ensures { Wrote self.old self.new (none_n b x.now (built self.old)) }
+        requires { Fits self.old (none_n b x.now self.old.net) }
+        ensures { Wrote self.old self.new (none_n b x.now self.old.net) }
     {
         for i in 0..x.len() {
-            let off = negated(x[i]);
-            let not_b = negated(b);
-            self.clause2(off, not_b);
+            let off = x[i].negated();
+            let not_b = b.negated();
+            self.clause(&[off, not_b]);
         }
     }
 
     // No bits of x and y meet at a place that their product's word doesn't have.
     fn separate(&mut self, x: &[Literal], y: &[Literal])
         requires operand { length y.now ≡ length x.now }
-        requires room { Fits self.old (apart_n x.now y.now (built self.old)) }
-        ensures { Wrote self.old self.new (apart_n x.now y.now (built self.old)) }
+        requires room { Fits self.old (apart_n x.now y.now self.old.net) }
+        ensures { Wrote self.old self.new (apart_n x.now y.now self.old.net) }
     {
         let width = x.len();
         for i in 0..width {
@@ -47,24 +47,24 @@ impl Builder<'_> {
     // x and y are equal.
     fn equate(&mut self, x: &[Literal], y: &[Literal])
         requires operand { length y.now ≡ length x.now }
-        requires room { Fits self.old (equated_n x.now y.now (built self.old)) }
-        ensures { Wrote self.old self.new (equated_n x.now y.now (built self.old)) }
+        requires room { Fits self.old (equated_n x.now y.now self.old.net) }
+        ensures { Wrote self.old self.new (equated_n x.now y.now self.old.net) }
     {
         for i in 0..x.len() {
-            let not_x = negated(x[i]);
-            let not_y = negated(y[i]);
-            self.clause2(not_x, y[i]);
-            self.clause2(x[i], not_y);
+            let not_x = x[i].negated();
+            let not_y = y[i].negated();
+            self.clause(&[not_x, y[i]]);
+            self.clause(&[x[i], not_y]);
         }
     }
 
     // The bits of x are all 1, unless a.
     fn unless(&mut self, a: Literal, x: &[Literal])
-        requires { Fits self.old (unless_n a x.now (built self.old)) }
-        ensures { Wrote self.old self.new (unless_n a x.now (built self.old)) }
+        requires { Fits self.old (unless_n a x.now self.old.net) }
+        ensures { Wrote self.old self.new (unless_n a x.now self.old.net) }
     {
         for i in 0..x.len() {
-            self.clause2(a, x[i]);
+            self.clause(&[a, x[i]]);
         }
     }
 
@@ -80,25 +80,25 @@ impl Builder<'_> {
         requires product { length product.now ≡ length x.now }
         requires remainder { length remainder.now ≡ length x.now }
         requires sum { length sum.old ≡ length x.now }
-        requires room { Fits self.old (sums_n product.now remainder.now x.now (built self.old)) }
-        ensures { Wrote self.old self.new (sums_n product.now remainder.now x.now (built self.old)) }
+        requires room { Fits self.old (sums_n product.now remainder.now x.now self.old.net) }
+        ensures { Wrote self.old self.new (sums_n product.now remainder.now x.now self.old.net) }
     {
         let over = self.add(product, remainder, false, LOW, sum);
-        let whole = negated(over);
-        self.clause1(whole);
+        let whole = over.negated();
+        self.clause(&[whole]);
         self.equate(sum, x);
     }
 
     // The remainder is below y, or y is 0 and the quotient all ones.
     fn bounds(&mut self, remainder: &[Literal], y: &[Literal], quotient: &[Literal])
         requires operand { length y.now ≡ length remainder.now }
-        requires room { Fits self.old (bounded_n remainder.now y.now quotient.now (built self.old)) }
-        ensures { Wrote self.old self.new (bounded_n remainder.now y.now quotient.now (built self.old)) }
+        requires room { Fits self.old (bounded_n remainder.now y.now quotient.now self.old.net) }
+        ensures { Wrote self.old self.new (bounded_n remainder.now y.now quotient.now self.old.net) }
     {
         let less = self.less(remainder, y, false);
         let some = self.any(y);
-        let zero = negated(some);
-        self.clause2(zero, less);
+        let zero = some.negated();
+        self.clause(&[zero, less]);
         self.unless(some, quotient);
     }
 
@@ -118,8 +118,8 @@ impl Builder<'_> {
         requires quotient { length quotient.now ≡ length x.now }
         requires remainder { length remainder.now ≡ length x.now }
         requires product { length product.now ≡ length x.now }
-        requires room { Fits self.old (divides_n x.now y.now quotient.now remainder.now product.now carries.now (built self.old)) }
-        ensures { Wrote self.old self.new (divides_n x.now y.now quotient.now remainder.now product.now carries.now (built self.old)) }
+        requires room { Fits self.old (divides_n x.now y.now quotient.now remainder.now product.now carries.now self.old.net) }
+        ensures { Wrote self.old self.new (divides_n x.now y.now quotient.now remainder.now product.now carries.now self.old.net) }
     {
         let mut buffer = [LOW; 64];
         self.deny(carries);

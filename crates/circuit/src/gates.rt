@@ -1,11 +1,10 @@
 // Gates, and what is left of them where an input is a constant or two inputs are alike.
 ghost use Rattle.std.specs.Prelude.{◌≡◌};
-ghost use Rattle.circuit.specs.Nets.{same};
 ghost use Rattle.circuit.specs.Gates.{and_rows, xor_rows, majority_rows, choice_rows, gate};
 ghost use Rattle.circuit.specs.Gates.{fold_and, fold_xor, fold_majority, fold_choice, and_n, or_n, xor_n, majority_n, choice_n};
-ghost use Rattle.circuit.specs.Built.{built, Fits, Wrote};
+ghost use Rattle.circuit.specs.Built.{Fits, Wrote};
 
-use crate::builder::{Builder, HIGH, LOW, negated};
+use crate::builder::{Builder, HIGH, LOW};
 use clauses::Literal;
 
 // What stands in place of a gate: a literal, a smaller gate, or nothing but the gate itself.
@@ -25,28 +24,21 @@ pub enum Bitwise {
     Exclusive,
 }
 
-// Whether two literals are one.
-fn is_same(a: Literal, b: Literal) -> bool
-    ensures { result ≡ same a b }
-{
-    a.0 == b.0
-}
-
 // What is left of a conjunction.
 fn fold_and(a: Literal, b: Literal) -> Folded
     ensures { result ≡ fold_and a b }
 {
-    if is_same(a, LOW) {
+    if a == LOW {
         Folded::Wire(LOW)
-    } else if is_same(b, LOW) {
+    } else if b == LOW {
         Folded::Wire(LOW)
-    } else if is_same(a, HIGH) {
+    } else if a == HIGH {
         Folded::Wire(b)
-    } else if is_same(b, HIGH) {
+    } else if b == HIGH {
         Folded::Wire(a)
-    } else if is_same(a, b) {
+    } else if a == b {
         Folded::Wire(a)
-    } else if is_same(a, negated(b)) {
+    } else if a == b.negated() {
         Folded::Wire(LOW)
     } else {
         Folded::Gate
@@ -57,17 +49,17 @@ fn fold_and(a: Literal, b: Literal) -> Folded
 fn fold_xor(a: Literal, b: Literal) -> Folded
     ensures { result ≡ fold_xor a b }
 {
-    if is_same(a, LOW) {
+    if a == LOW {
         Folded::Wire(b)
-    } else if is_same(b, LOW) {
+    } else if b == LOW {
         Folded::Wire(a)
-    } else if is_same(a, HIGH) {
-        Folded::Wire(negated(b))
-    } else if is_same(b, HIGH) {
-        Folded::Wire(negated(a))
-    } else if is_same(a, b) {
+    } else if a == HIGH {
+        Folded::Wire(b.negated())
+    } else if b == HIGH {
+        Folded::Wire(a.negated())
+    } else if a == b {
         Folded::Wire(LOW)
-    } else if is_same(a, negated(b)) {
+    } else if a == b.negated() {
         Folded::Wire(HIGH)
     } else {
         Folded::Gate
@@ -78,21 +70,21 @@ fn fold_xor(a: Literal, b: Literal) -> Folded
 fn fold_majority(a: Literal, b: Literal, c: Literal) -> Folded
     ensures { result ≡ fold_majority a b c }
 {
-    if is_same(a, LOW) {
+    if a == LOW {
         Folded::And(b, c)
-    } else if is_same(a, HIGH) {
+    } else if a == HIGH {
         Folded::Or(b, c)
-    } else if is_same(b, LOW) {
+    } else if b == LOW {
         Folded::And(a, c)
-    } else if is_same(b, HIGH) {
+    } else if b == HIGH {
         Folded::Or(a, c)
-    } else if is_same(c, LOW) {
+    } else if c == LOW {
         Folded::And(a, b)
-    } else if is_same(c, HIGH) {
+    } else if c == HIGH {
         Folded::Or(a, b)
-    } else if is_same(a, b) {
+    } else if a == b {
         Folded::Wire(a)
-    } else if is_same(a, negated(b)) {
+    } else if a == b.negated() {
         Folded::Wire(c)
     } else {
         Folded::Gate
@@ -103,19 +95,19 @@ fn fold_majority(a: Literal, b: Literal, c: Literal) -> Folded
 fn fold_choice(s: Literal, a: Literal, b: Literal) -> Folded
     ensures { result ≡ fold_choice s a b }
 {
-    if is_same(s, HIGH) {
+    if s == HIGH {
         Folded::Wire(a)
-    } else if is_same(s, LOW) {
+    } else if s == LOW {
         Folded::Wire(b)
-    } else if is_same(a, b) {
+    } else if a == b {
         Folded::Wire(a)
-    } else if is_same(a, HIGH) {
+    } else if a == HIGH {
         Folded::Or(s, b)
-    } else if is_same(a, LOW) {
-        Folded::And(negated(s), b)
-    } else if is_same(b, HIGH) {
-        Folded::Or(negated(s), a)
-    } else if is_same(b, LOW) {
+    } else if a == LOW {
+        Folded::And(s.negated(), b)
+    } else if b == HIGH {
+        Folded::Or(s.negated(), a)
+    } else if b == LOW {
         Folded::And(s, a)
     } else {
         Folded::Gate
@@ -124,77 +116,77 @@ fn fold_choice(s: Literal, a: Literal, b: Literal) -> Folded
 
 impl Builder<'_> {
     fn and_gate(&mut self, a: Literal, b: Literal) -> Literal
-        requires { Fits self.old (gate (λ o. and_rows o a b) (built self.old)).0 }
-        ensures wrote { Wrote self.old self.new (gate (λ o. and_rows o a b) (built self.old)).0 }
-        ensures output { result ≡ (gate (λ o. and_rows o a b) (built self.old)).1 }
+        requires { Fits self.old (gate (λ o. and_rows o a b) self.old.net).0 }
+        ensures wrote { Wrote self.old self.new (gate (λ o. and_rows o a b) self.old.net).0 }
+        ensures output { result ≡ (gate (λ o. and_rows o a b) self.old.net).1 }
     {
         let output = self.fresh();
-        let off = negated(output);
-        let not_a = negated(a);
-        let not_b = negated(b);
-        self.clause2(off, a);
-        self.clause2(off, b);
-        self.clause3(output, not_a, not_b);
+        let off = output.negated();
+        let not_a = a.negated();
+        let not_b = b.negated();
+        self.clause(&[off, a]);
+        self.clause(&[off, b]);
+        self.clause(&[output, not_a, not_b]);
         output
     }
 
     fn xor_gate(&mut self, a: Literal, b: Literal) -> Literal
-        requires { Fits self.old (gate (λ o. xor_rows o a b) (built self.old)).0 }
-        ensures wrote { Wrote self.old self.new (gate (λ o. xor_rows o a b) (built self.old)).0 }
-        ensures output { result ≡ (gate (λ o. xor_rows o a b) (built self.old)).1 }
+        requires { Fits self.old (gate (λ o. xor_rows o a b) self.old.net).0 }
+        ensures wrote { Wrote self.old self.new (gate (λ o. xor_rows o a b) self.old.net).0 }
+        ensures output { result ≡ (gate (λ o. xor_rows o a b) self.old.net).1 }
     {
         let output = self.fresh();
-        let off = negated(output);
-        let not_a = negated(a);
-        let not_b = negated(b);
-        self.clause3(off, a, b);
-        self.clause3(off, not_a, not_b);
-        self.clause3(output, not_a, b);
-        self.clause3(output, a, not_b);
+        let off = output.negated();
+        let not_a = a.negated();
+        let not_b = b.negated();
+        self.clause(&[off, a, b]);
+        self.clause(&[off, not_a, not_b]);
+        self.clause(&[output, not_a, b]);
+        self.clause(&[output, a, not_b]);
         output
     }
 
     fn majority_gate(&mut self, a: Literal, b: Literal, c: Literal) -> Literal
-        requires { Fits self.old (gate (λ o. majority_rows o a b c) (built self.old)).0 }
-        ensures wrote { Wrote self.old self.new (gate (λ o. majority_rows o a b c) (built self.old)).0 }
-        ensures output { result ≡ (gate (λ o. majority_rows o a b c) (built self.old)).1 }
+        requires { Fits self.old (gate (λ o. majority_rows o a b c) self.old.net).0 }
+        ensures wrote { Wrote self.old self.new (gate (λ o. majority_rows o a b c) self.old.net).0 }
+        ensures output { result ≡ (gate (λ o. majority_rows o a b c) self.old.net).1 }
     {
         let output = self.fresh();
-        let off = negated(output);
-        let not_a = negated(a);
-        let not_b = negated(b);
-        let not_c = negated(c);
-        self.clause3(off, a, b);
-        self.clause3(off, a, c);
-        self.clause3(off, b, c);
-        self.clause3(output, not_a, not_b);
-        self.clause3(output, not_a, not_c);
-        self.clause3(output, not_b, not_c);
+        let off = output.negated();
+        let not_a = a.negated();
+        let not_b = b.negated();
+        let not_c = c.negated();
+        self.clause(&[off, a, b]);
+        self.clause(&[off, a, c]);
+        self.clause(&[off, b, c]);
+        self.clause(&[output, not_a, not_b]);
+        self.clause(&[output, not_a, not_c]);
+        self.clause(&[output, not_b, not_c]);
         output
     }
 
     fn choice_gate(&mut self, s: Literal, a: Literal, b: Literal) -> Literal
-        requires { Fits self.old (gate (λ o. choice_rows o s a b) (built self.old)).0 }
-        ensures wrote { Wrote self.old self.new (gate (λ o. choice_rows o s a b) (built self.old)).0 }
-        ensures output { result ≡ (gate (λ o. choice_rows o s a b) (built self.old)).1 }
+        requires { Fits self.old (gate (λ o. choice_rows o s a b) self.old.net).0 }
+        ensures wrote { Wrote self.old self.new (gate (λ o. choice_rows o s a b) self.old.net).0 }
+        ensures output { result ≡ (gate (λ o. choice_rows o s a b) self.old.net).1 }
     {
         let output = self.fresh();
-        let off = negated(output);
-        let not_s = negated(s);
-        let not_a = negated(a);
-        let not_b = negated(b);
-        self.clause3(not_s, off, a);
-        self.clause3(not_s, output, not_a);
-        self.clause3(s, off, b);
-        self.clause3(s, output, not_b);
+        let off = output.negated();
+        let not_s = s.negated();
+        let not_a = a.negated();
+        let not_b = b.negated();
+        self.clause(&[not_s, off, a]);
+        self.clause(&[not_s, output, not_a]);
+        self.clause(&[s, off, b]);
+        self.clause(&[s, output, not_b]);
         output
     }
 
     // Both a and b.
     pub fn and(&mut self, a: Literal, b: Literal) -> Literal
-        requires { Fits self.old (and_n a b (built self.old)).0 }
-        ensures wrote { Wrote self.old self.new (and_n a b (built self.old)).0 }
-        ensures output { result ≡ (and_n a b (built self.old)).1 }
+        requires { Fits self.old (and_n a b self.old.net).0 }
+        ensures wrote { Wrote self.old self.new (and_n a b self.old.net).0 }
+        ensures output { result ≡ (and_n a b self.old.net).1 }
     {
         match fold_and(a, b) {
             Folded::Wire(wire) => wire,
@@ -204,21 +196,21 @@ impl Builder<'_> {
 
     // One of a and b, or both.
     pub fn or(&mut self, a: Literal, b: Literal) -> Literal
-        requires { Fits self.old (or_n a b (built self.old)).0 }
-        ensures wrote { Wrote self.old self.new (or_n a b (built self.old)).0 }
-        ensures output { result ≡ (or_n a b (built self.old)).1 }
+        requires { Fits self.old (or_n a b self.old.net).0 }
+        ensures wrote { Wrote self.old self.new (or_n a b self.old.net).0 }
+        ensures output { result ≡ (or_n a b self.old.net).1 }
     {
-        let not_a = negated(a);
-        let not_b = negated(b);
+        let not_a = a.negated();
+        let not_b = b.negated();
         let none = self.and(not_a, not_b);
-        negated(none)
+        none.negated()
     }
 
     // Exactly one of a and b.
     pub fn xor(&mut self, a: Literal, b: Literal) -> Literal
-        requires { Fits self.old (xor_n a b (built self.old)).0 }
-        ensures wrote { Wrote self.old self.new (xor_n a b (built self.old)).0 }
-        ensures output { result ≡ (xor_n a b (built self.old)).1 }
+        requires { Fits self.old (xor_n a b self.old.net).0 }
+        ensures wrote { Wrote self.old self.new (xor_n a b self.old.net).0 }
+        ensures output { result ≡ (xor_n a b self.old.net).1 }
     {
         match fold_xor(a, b) {
             Folded::Wire(wire) => wire,
@@ -228,9 +220,9 @@ impl Builder<'_> {
 
     // At least two of a, b and c.
     pub fn majority(&mut self, a: Literal, b: Literal, c: Literal) -> Literal
-        requires { Fits self.old (majority_n a b c (built self.old)).0 }
-        ensures wrote { Wrote self.old self.new (majority_n a b c (built self.old)).0 }
-        ensures output { result ≡ (majority_n a b c (built self.old)).1 }
+        requires { Fits self.old (majority_n a b c self.old.net).0 }
+        ensures wrote { Wrote self.old self.new (majority_n a b c self.old.net).0 }
+        ensures output { result ≡ (majority_n a b c self.old.net).1 }
     {
         match fold_majority(a, b, c) {
             Folded::Wire(wire) => wire,
@@ -242,9 +234,9 @@ impl Builder<'_> {
 
     // a if s, else b.
     pub fn choice(&mut self, s: Literal, a: Literal, b: Literal) -> Literal
-        requires { Fits self.old (choice_n s a b (built self.old)).0 }
-        ensures wrote { Wrote self.old self.new (choice_n s a b (built self.old)).0 }
-        ensures output { result ≡ (choice_n s a b (built self.old)).1 }
+        requires { Fits self.old (choice_n s a b self.old.net).0 }
+        ensures wrote { Wrote self.old self.new (choice_n s a b self.old.net).0 }
+        ensures output { result ≡ (choice_n s a b self.old.net).1 }
     {
         match fold_choice(s, a, b) {
             Folded::Wire(wire) => wire,

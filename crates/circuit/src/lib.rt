@@ -15,5 +15,5 @@ mod operations;
 mod shifting;
 
 pub use adding::Sum;
-pub use builder::{Builder, HIGH, LOW, negated};
+pub use builder::{Builder, HIGH, LOW};
 pub use gates::{Bitwise, Folded};

@@ -5,9 +5,9 @@ ghost use Rattle.circuit.specs.Bits.{flag, top_of};
 ghost use Rattle.circuit.specs.Nets.{low, high};
 ghost use Rattle.circuit.specs.Circuits.{inverted, flagged, equal_n, less_n, product_n, unary_n, binary_n};
 ghost use Rattle.circuit.specs.Parts.{compared};
-ghost use Rattle.circuit.specs.Built.{built, Fits, Wrote};
+ghost use Rattle.circuit.specs.Built.{Fits, Wrote};
 
-use crate::builder::{Builder, HIGH, LOW, negated};
+use crate::builder::{Builder, HIGH, LOW};
 use crate::gates::Bitwise;
 use clauses::Literal;
 use words::{BinaryOp, UnaryOp};
@@ -18,7 +18,7 @@ fn invert(x: &[Literal], out: &mut [Literal])
     ensures { out.new ≡ inverted x.now }
 {
     for i in 0..x.len() {
-        out[i] = negated(x[i]);
+        out[i] = x[i].negated();
     }
 }
 
@@ -56,9 +56,9 @@ impl Builder<'_> {
     fn negate(&mut self, zero: &mut [Literal], x: &[Literal], out: &mut [Literal])
         requires zero { length zero.old ≡ length x.now }
         requires word { length out.old ≡ length x.now }
-        requires room { Fits self.old (unary_n UnaryOp.Neg x.now (built self.old)).0 }
-        ensures wrote { Wrote self.old self.new (unary_n UnaryOp.Neg x.now (built self.old)).0 }
-        ensures result { out.new ≡ (unary_n UnaryOp.Neg x.now (built self.old)).1 }
+        requires room { Fits self.old (unary_n UnaryOp.Neg x.now self.old.net).0 }
+        ensures wrote { Wrote self.old self.new (unary_n UnaryOp.Neg x.now self.old.net).0 }
+        ensures result { out.new ≡ (unary_n UnaryOp.Neg x.now self.old.net).1 }
     {
         clear(zero);
         self.add(zero, x, true, HIGH, out);
@@ -68,9 +68,9 @@ impl Builder<'_> {
     fn equal_word(&mut self, x: &[Literal], y: &[Literal], out: &mut [Literal])
         requires operand { length y.now ≡ length x.now }
         requires word { length out.old ≡ length x.now }
-        requires room { Fits self.old (flagged x.now (equal_n x.now y.now high (built self.old))).0 }
-        ensures wrote { Wrote self.old self.new (flagged x.now (equal_n x.now y.now high (built self.old))).0 }
-        ensures result { out.new ≡ (flagged x.now (equal_n x.now y.now high (built self.old))).1 }
+        requires room { Fits self.old (flagged x.now (equal_n x.now y.now high self.old.net)).0 }
+        ensures wrote { Wrote self.old self.new (flagged x.now (equal_n x.now y.now high self.old.net)).0 }
+        ensures result { out.new ≡ (flagged x.now (equal_n x.now y.now high self.old.net)).1 }
     {
         let bit = self.equal(x, y);
         write_flag(bit, out);
@@ -80,9 +80,9 @@ impl Builder<'_> {
     fn less_word(&mut self, x: &[Literal], y: &[Literal], signed: bool, out: &mut [Literal])
         requires operand { length y.now ≡ length x.now }
         requires word { length out.old ≡ length x.now }
-        requires room { Fits self.old (flagged x.now (less_n (compared signed x.now y.now) (compared signed y.now x.now) (built self.old))).0 }
-        ensures wrote { Wrote self.old self.new (flagged x.now (less_n (compared signed x.now y.now) (compared signed y.now x.now) (built self.old))).0 }
-        ensures result { out.new ≡ (flagged x.now (less_n (compared signed x.now y.now) (compared signed y.now x.now) (built self.old))).1 }
+        requires room { Fits self.old (flagged x.now (less_n (compared signed x.now y.now) (compared signed y.now x.now) self.old.net)).0 }
+        ensures wrote { Wrote self.old self.new (flagged x.now (less_n (compared signed x.now y.now) (compared signed y.now x.now) self.old.net)).0 }
+        ensures result { out.new ≡ (flagged x.now (less_n (compared signed x.now y.now) (compared signed y.now x.now) self.old.net)).1 }
     {
         let bit = self.less(x, y, signed);
         write_flag(bit, out);
@@ -92,9 +92,9 @@ impl Builder<'_> {
     pub fn unary(&mut self, op: UnaryOp, x: &[Literal], out: &mut [Literal])
         requires short { length x.now ≤ 64 }
         requires word { length out.old ≡ length x.now }
-        requires room { Fits self.old (unary_n op x.now (built self.old)).0 }
-        ensures wrote { Wrote self.old self.new (unary_n op x.now (built self.old)).0 }
-        ensures result { out.new ≡ (unary_n op x.now (built self.old)).1 }
+        requires room { Fits self.old (unary_n op x.now self.old.net).0 }
+        ensures wrote { Wrote self.old self.new (unary_n op x.now self.old.net).0 }
+        ensures result { out.new ≡ (unary_n op x.now self.old.net).1 }
     {
         match op {
             UnaryOp::Not => invert(x, out),
@@ -119,10 +119,10 @@ impl Builder<'_> {
         requires operand { length y.now ≡ length x.now }
         requires word { length out.old ≡ length x.now }
         requires rows { length carries.old ≡ length x.now }
-        requires room { Fits self.old (binary_n op x.now y.now (built self.old)).0 }
-        ensures wrote { Wrote self.old self.new (binary_n op x.now y.now (built self.old)).0 }
-        ensures result { out.new ≡ (binary_n op x.now y.now (built self.old)).1 }
-        ensures carries { op ≡ Mul → carries.new ≡ (product_n x.now y.now (built self.old)).1.1 }
+        requires room { Fits self.old (binary_n op x.now y.now self.old.net).0 }
+        ensures wrote { Wrote self.old self.new (binary_n op x.now y.now self.old.net).0 }
+        ensures result { out.new ≡ (binary_n op x.now y.now self.old.net).1 }
+        ensures carries { op ≡ Mul → carries.new ≡ (product_n x.now y.now self.old.net).1.1 }
     {
         match op {
             BinaryOp::Add => {

@@ -2,7 +2,7 @@
 ghost use Rattle.std.specs.Prelude.{◌≡◌, ◌<◌, ◌≤◌, length, slice_index_or};
 ghost use Rattle.circuit.specs.Bits.{moved};
 ghost use Rattle.circuit.specs.Circuits.{choose_n, shift_n};
-ghost use Rattle.circuit.specs.Built.{built, Fits, Wrote};
+ghost use Rattle.circuit.specs.Built.{Fits, Wrote};
 
 use crate::builder::{Builder, LOW};
 use clauses::Literal;
@@ -33,9 +33,9 @@ impl Builder<'_> {
         out: &mut [Literal],
     )
         requires word { length out.old ≡ length x.now }
-        requires room { Fits self.old (choose_n s (moved left incoming places x.now) x.now (built self.old)).0 }
-        ensures wrote { Wrote self.old self.new (choose_n s (moved left incoming places x.now) x.now (built self.old)).0 }
-        ensures result { out.new ≡ (choose_n s (moved left incoming places x.now) x.now (built self.old)).1 }
+        requires room { Fits self.old (choose_n s (moved left incoming places x.now) x.now self.old.net).0 }
+        ensures wrote { Wrote self.old self.new (choose_n s (moved left incoming places x.now) x.now self.old.net).0 }
+        ensures result { out.new ≡ (choose_n s (moved left incoming places x.now) x.now self.old.net).1 }
     {
         for i in 0..x.len() {
             let bit = moved_bit(left, incoming, places, x, i);
@@ -55,9 +55,9 @@ impl Builder<'_> {
     )
         requires short { length out.old ≤ 64 }
         requires word { length before.old ≡ length out.old }
-        requires room { Fits self.old (shift_n left incoming (length out.old) 1 out.old count.now (built self.old)).0 }
-        ensures wrote { Wrote self.old self.new (shift_n left incoming (length out.old) 1 out.old count.now (built self.old)).0 }
-        ensures result { out.new ≡ (shift_n left incoming (length out.old) 1 out.old count.now (built self.old)).1 }
+        requires room { Fits self.old (shift_n left incoming (length out.old) 1 out.old count.now self.old.net).0 }
+        ensures wrote { Wrote self.old self.new (shift_n left incoming (length out.old) 1 out.old count.now self.old.net).0 }
+        ensures result { out.new ≡ (shift_n left incoming (length out.old) 1 out.old count.now self.old.net).1 }
     {
         let mut places = 1;
         for i in 0..count.len() {
@@ -83,9 +83,9 @@ impl Builder<'_> {
     )
         requires short { length x.now ≤ 64 }
         requires word { length out.old ≡ length x.now }
-        requires room { Fits self.old (shift_n left incoming (length x.now) 1 x.now count.now (built self.old)).0 }
-        ensures wrote { Wrote self.old self.new (shift_n left incoming (length x.now) 1 x.now count.now (built self.old)).0 }
-        ensures result { out.new ≡ (shift_n left incoming (length x.now) 1 x.now count.now (built self.old)).1 }
+        requires room { Fits self.old (shift_n left incoming (length x.now) 1 x.now count.now self.old.net).0 }
+        ensures wrote { Wrote self.old self.new (shift_n left incoming (length x.now) 1 x.now count.now self.old.net).0 }
+        ensures result { out.new ≡ (shift_n left incoming (length x.now) 1 x.now count.now self.old.net).1 }
     {
         let mut buffer = [LOW; 64];
         out.copy_from_slice(x);

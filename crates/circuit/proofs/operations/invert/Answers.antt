@@ -6,7 +6,7 @@ pub loop-i-init : goal.loop-i-init
 loop-i-init c = refl
 
 pub loop-i-preserved : goal.loop-i-preserved
-loop-i-preserved c = inverted_more c.args.x.now c.loop-i.out c.loop-i.i c.negated.result c.loop-i-test.true (omega arith) c.negated.ensures c.loop-i.invariant
+loop-i-preserved c = inverted_more c.args.x.now c.loop-i.out c.loop-i.i c.negated.result c.loop-i-test.true (omega arith) c.negated.ensures.value c.loop-i.invariant
 
 pub returns : goal.returns
 returns c = inverted_all c.args.x.now c.loop-i.out c.loop-i.i c.loop-i-test.false (omega arith) c.loop-i.invariant

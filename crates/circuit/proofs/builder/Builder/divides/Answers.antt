@@ -1,7 +1,6 @@
 use Rattle.std.proofs.Common.{arith, length-take}
 use Rattle.circuit.specs.Circuits.{denied_n, apart_n}
 use Rattle.circuit.specs.Parts.{sums_n, bounded_n}
-use Rattle.circuit.specs.Built.{built}
 use Rattle.circuit.proofs.Growing.{grows_same, grows_then}
 use Rattle.circuit.proofs.Circuits.{apart_grows, sums_grows, bounded_grows}
 use Rattle.circuit.proofs.Writing.{fits_first, fits_next, wrote_next}
@@ -9,18 +8,18 @@ use Rattle.circuit.proofs.builder.Builder.divides.Goals as goal
 
 pub deny-requires : goal.deny-requires
 deny-requires c =
-    let m = denied_n c.args.carries.now (built c.args.self.now) in
+    let m = denied_n c.args.carries.now c.args.self.now.net in
     let k = apart_n c.args.y.now c.args.quotient.now m in
     fits_first (grows_then (apart_grows c.args.y.now c.args.quotient.now m) (grows_then (sums_grows c.args.product.now c.args.remainder.now c.args.x.now k) (bounded_grows c.args.remainder.now c.args.y.now c.args.quotient.now (sums_n c.args.product.now c.args.remainder.now c.args.x.now k)))) c.requires.room
 
 pub separate-requires : goal.separate-requires
 separate-requires c =
-    let k = apart_n c.args.y.now c.args.quotient.now (denied_n c.args.carries.now (built c.args.self.now)) in
+    let k = apart_n c.args.y.now c.args.quotient.now (denied_n c.args.carries.now c.args.self.now.net) in
     record { operand = omega arith; room = fits_next (apart_n c.args.y.now c.args.quotient.now) c.deny.ensures (grows_then (sums_grows c.args.product.now c.args.remainder.now c.args.x.now k) (bounded_grows c.args.remainder.now c.args.y.now c.args.quotient.now (sums_n c.args.product.now c.args.remainder.now c.args.x.now k))) c.requires.room }
 
 pub sums-requires : goal.sums-requires
 sums-requires c =
-    let k = apart_n c.args.y.now c.args.quotient.now (denied_n c.args.carries.now (built c.args.self.now)) in
+    let k = apart_n c.args.y.now c.args.quotient.now (denied_n c.args.carries.now c.args.self.now.net) in
     let wrote = wrote_next (apart_n c.args.y.now c.args.quotient.now) c.deny.ensures c.separate.ensures in
     record { product = c.requires.product; remainder = c.requires.remainder; sum = simp length-take (omega arith); room = fits_next (sums_n c.args.product.now c.args.remainder.now c.args.x.now) wrote (bounded_grows c.args.remainder.now c.args.y.now c.args.quotient.now (sums_n c.args.product.now c.args.remainder.now c.args.x.now k)) c.requires.room }
 

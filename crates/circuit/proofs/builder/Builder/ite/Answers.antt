@@ -1,6 +1,5 @@
 use Rattle.circuit.specs.Nets.{low}
 use Rattle.circuit.specs.Circuits.{choose_n, any_n}
-use Rattle.circuit.specs.Built.{built}
 use Rattle.circuit.proofs.Growing.{grows_same}
 use Rattle.circuit.proofs.Circuits.{choose_grows}
 use Rattle.circuit.proofs.Writing.{fits_first, fits_then, wrote_then, gives_then}
@@ -8,7 +7,7 @@ use Rattle.circuit.proofs.builder.Builder.ite.Goals as goal
 
 pub any-test-requires : goal.any-test-requires
 any-test-requires c =
-    let test = any_n c.args.t.now low (built c.args.self.now) in
+    let test = any_n c.args.t.now low c.args.self.now.net in
     fits_first (choose_grows test.1 c.args.x.now c.args.y.now test.0) c.requires.room
 
 pub choose-requires : goal.choose-requires

@@ -12,13 +12,13 @@ add-requires c =
     record {
       operand = omega arith;
       word = omega arith;
-      room = fits_then (λ l k. (add_n l (inverted c.args.x.now) high k).0) (wrote_none c.args.self.now c.requires.room.inside) zero (grows_same _) c.requires.room;
+      room = fits_then (λ l k. (add_n l (inverted c.args.x.now) high k).0) (wrote_none c.args.self.now) zero (grows_same _) c.requires.room;
     }
 
 pub returns : goal.returns
 returns c =
     let zero = zero_word c.args.zero.now c.args.x.now c.clear.new.out c.requires.zero c.clear.ensures in
     record {
-      wrote = wrote_then (λ l k. (add_n l (inverted c.args.x.now) high k).0) (wrote_none c.args.self.now c.requires.room.inside) zero c.add.ensures.wrote;
-      result = gives_then (λ l k. (add_n l (inverted c.args.x.now) high k).1.0) (wrote_none c.args.self.now c.requires.room.inside) zero c.add.ensures.sum;
+      wrote = wrote_then (λ l k. (add_n l (inverted c.args.x.now) high k).0) (wrote_none c.args.self.now) zero c.add.ensures.wrote;
+      result = gives_then (λ l k. (add_n l (inverted c.args.x.now) high k).1.0) (wrote_none c.args.self.now) zero c.add.ensures.sum;
     }

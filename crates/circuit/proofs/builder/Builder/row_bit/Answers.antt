@@ -1,7 +1,6 @@
 use Rattle.circuit.specs.Gates.{and_n}
 use Rattle.circuit.specs.Circuits.{full_n}
 use Rattle.circuit.specs.Parts.{row_bit_n}
-use Rattle.circuit.specs.Built.{built}
 use Rattle.circuit.proofs.Growing.{grows_same}
 use Rattle.circuit.proofs.Circuits.{full_grows}
 use Rattle.circuit.proofs.Writing.{fits_first, fits_then, wrote_then, gives_then}
@@ -10,7 +9,7 @@ use Rattle.circuit.proofs.builder.Builder.row_bit.Goals as goal
 pub and-both-requires : goal.and-both-requires
 unfolding row_bit_n
 and-both-requires c =
-    let both = and_n c.args.x c.args.y (built c.args.self.now) in
+    let both = and_n c.args.x c.args.y c.args.self.now.net in
     fits_first (full_grows both.1 c.args.above c.args.carry both.0) c.requires
 
 pub full-requires : goal.full-requires

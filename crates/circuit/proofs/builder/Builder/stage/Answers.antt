@@ -4,7 +4,6 @@ use Rattle.circuit.specs.Bits.{moved}
 use Rattle.circuit.specs.Gates.{choice_n}
 use Rattle.circuit.specs.Circuits.{choose_n}
 use Rattle.circuit.specs.Nets.{Net}
-use Rattle.circuit.specs.Built.{built}
 use Rattle.circuit.proofs.Circuits.{choose_grows}
 use Rattle.circuit.proofs.Moved.{moved_length}
 use Rattle.circuit.proofs.Writing.{wrote_none, wrote_here}
@@ -13,26 +12,26 @@ use Rattle.circuit.proofs.Steps.{blank, choose_more, choose_all}
 use Rattle.circuit.proofs.builder.Builder.stage.Goals as goal
 
 pub loop-i-init : goal.loop-i-init
-loop-i-init c = (wrote_none _ c.requires.room.inside, refl)
+loop-i-init c = (wrote_none _, refl)
 
 pub choice-requires : goal.choice-requires
 choice-requires c =
     let long = moved_length c.args.left c.args.incoming c.args.places c.args.x.now in
-    let t = choice_n c.args.s c.moved_bit-bit.result (get_or c.args.x.now c.loop-i.i blank) (built c.loop-i.self) in
-    let more = choose_more c.args.s (moved c.args.left c.args.incoming c.args.places c.args.x.now) c.args.x.now c.loop-i.i c.moved_bit-bit.result (built c.loop-i.self) (omega arith) c.loop-i-test.true c.moved_bit-bit.ensures in
+    let t = choice_n c.args.s c.moved_bit-bit.result (get_or c.args.x.now c.loop-i.i blank) c.loop-i.self.net in
+    let more = choose_more c.args.s (moved c.args.left c.args.incoming c.args.places c.args.x.now) c.args.x.now c.loop-i.i c.moved_bit-bit.result c.loop-i.self.net (omega arith) c.loop-i-test.true c.moved_bit-bit.ensures in
     loop_fits c.loop-i.invariant.0 (ap (λ r. r.0) (c.loop-i.invariant.1 ∙ ap (after (take c.loop-i.i c.loop-i.out)) more)) (choose_grows c.args.s (drop (c.loop-i.i + 1) (moved c.args.left c.args.incoming c.args.places c.args.x.now)) (drop (c.loop-i.i + 1) c.args.x.now) t.0) c.requires.room
 
 pub loop-i-preserved : goal.loop-i-preserved
 loop-i-preserved c =
     let long = moved_length c.args.left c.args.incoming c.args.places c.args.x.now in
-    let t = choice_n c.args.s c.moved_bit-bit.result (get_or c.args.x.now c.loop-i.i blank) (built c.loop-i.self) in
-    let more = choose_more c.args.s (moved c.args.left c.args.incoming c.args.places c.args.x.now) c.args.x.now c.loop-i.i c.moved_bit-bit.result (built c.loop-i.self) (omega arith) c.loop-i-test.true c.moved_bit-bit.ensures in
+    let t = choice_n c.args.s c.moved_bit-bit.result (get_or c.args.x.now c.loop-i.i blank) c.loop-i.self.net in
+    let more = choose_more c.args.s (moved c.args.left c.args.incoming c.args.places c.args.x.now) c.args.x.now c.loop-i.i c.moved_bit-bit.result c.loop-i.self.net (omega arith) c.loop-i-test.true c.moved_bit-bit.ensures in
     let rest : Unit {0} → Net → Net × (List Literal × Unit {0}) = λ s n. alone (choose_n c.args.s (drop (c.loop-i.i + 1) (moved c.args.left c.args.incoming c.args.places c.args.x.now)) (drop (c.loop-i.i + 1) c.args.x.now) n) in
     (wrote_here c.loop-i.invariant.0 c.choice.ensures.wrote, bit_more rest (t.0, (t.1, tt)) c.loop-i.out c.loop-i.i c.choice.result tt (omega arith) (c.loop-i.invariant.1 ∙ ap (after (take c.loop-i.i c.loop-i.out)) more) c.choice.ensures.wrote c.choice.ensures.output refl)
 
 pub returns : goal.returns
 returns c =
     let long = moved_length c.args.left c.args.incoming c.args.places c.args.x.now in
-    let rest = choose_all c.args.s (moved c.args.left c.args.incoming c.args.places c.args.x.now) (drop c.loop-i.i c.args.x.now) c.loop-i.i (built c.loop-i.self) (omega arith) in
-    let all = bits_all c.loop-i.out c.loop-i.i (built c.loop-i.self) tt (omega arith) (c.loop-i.invariant.1 ∙ ap (after (take c.loop-i.i c.loop-i.out)) rest) in
+    let rest = choose_all c.args.s (moved c.args.left c.args.incoming c.args.places c.args.x.now) (drop c.loop-i.i c.args.x.now) c.loop-i.i c.loop-i.self.net (omega arith) in
+    let all = bits_all c.loop-i.out c.loop-i.i c.loop-i.self.net tt (omega arith) (c.loop-i.invariant.1 ∙ ap (after (take c.loop-i.i c.loop-i.out)) rest) in
     record { wrote = loop_wrote c.loop-i.invariant.0 (ap (λ r. r.0) all); result = sym (ap (λ r. r.1.0) all) }

@@ -1,7 +1,7 @@
 use Rattle.std.proofs.Common.{[], ◌∷◌, ap, ◌∙◌, arith}
-use Rattle.circuit.specs.Nets.{low, negated, said}
+use Rattle.clauses.specs.Literals.{negated}
+use Rattle.circuit.specs.Nets.{low, said}
 use Rattle.circuit.specs.Circuits.{add_n, equated_n}
-use Rattle.circuit.specs.Built.{built}
 use Rattle.circuit.proofs.Growing.{grows_same, grows_then, said_grows}
 use Rattle.circuit.proofs.Circuits.{equated_grows}
 use Rattle.circuit.proofs.Writing.{fits_first, fits_then, wrote_then}
@@ -9,22 +9,22 @@ use Rattle.circuit.proofs.builder.Builder.sums.Goals as goal
 
 pub add-over-requires : goal.add-over-requires
 add-over-requires c =
-    let s = add_n c.args.product.now c.args.remainder.now low (built c.args.self.now) in
+    let s = add_n c.args.product.now c.args.remainder.now low c.args.self.now.net in
     let m = said (negated s.1.1 ∷ []) s.0 in
     record { operand = omega arith; word = omega arith; room = fits_first (grows_then (said_grows (negated s.1.1 ∷ []) s.0) (equated_grows s.1.0 c.args.x.now m)) c.requires.room }
 
-pub clause1-requires : goal.clause1-requires
-clause1-requires c =
-    let s = add_n c.args.product.now c.args.remainder.now low (built c.args.self.now) in
+pub clause-requires : goal.clause-requires
+clause-requires c =
+    let s = add_n c.args.product.now c.args.remainder.now low c.args.self.now.net in
     let m = said (negated s.1.1 ∷ []) s.0 in
-    fits_then (λ l k. said (l ∷ []) k) c.add-over.ensures.wrote (c.negated-whole.ensures ∙ ap negated c.add-over.ensures.over) (equated_grows s.1.0 c.args.x.now m) c.requires.room
+    fits_then (λ l k. said (l ∷ []) k) c.add-over.ensures.wrote (c.negated-whole.ensures.value ∙ ap negated c.add-over.ensures.over) (equated_grows s.1.0 c.args.x.now m) c.requires.room
 
 pub equate-requires : goal.equate-requires
 equate-requires c =
-    let wrote = wrote_then (λ l k. said (l ∷ []) k) c.add-over.ensures.wrote (c.negated-whole.ensures ∙ ap negated c.add-over.ensures.over) c.clause1.ensures in
+    let wrote = wrote_then (λ l k. said (l ∷ []) k) c.add-over.ensures.wrote (c.negated-whole.ensures.value ∙ ap negated c.add-over.ensures.over) c.clause.ensures in
     record { operand = omega arith; room = fits_then (λ l k. equated_n l c.args.x.now k) wrote c.add-over.ensures.sum (grows_same _) c.requires.room }
 
 pub returns : goal.returns
 returns c =
-    let wrote = wrote_then (λ l k. said (l ∷ []) k) c.add-over.ensures.wrote (c.negated-whole.ensures ∙ ap negated c.add-over.ensures.over) c.clause1.ensures in
+    let wrote = wrote_then (λ l k. said (l ∷ []) k) c.add-over.ensures.wrote (c.negated-whole.ensures.value ∙ ap negated c.add-over.ensures.over) c.clause.ensures in
     wrote_then (λ l k. equated_n l c.args.x.now k) wrote c.add-over.ensures.sum c.equate.ensures
