@@ -1,5 +1,6 @@
 -- Each circuit's net grows.
-use Rattle.std.proofs.Common.{ℕ, ◌+◌, Bool, true, false, cond, ltb, List, [], ◌∷◌}
+use Rattle.std.proofs.Common.{ℕ, ◌+◌, true, false, cond, ltb, List, [], ◌∷◌}
+use Rattle.circuit.specs.declared.shifting.Direction.{Direction}
 use Rattle.clauses.specs.declared.literal.Literal.{Literal}
 use Rattle.circuit.specs.declared.gates.Folded.{Folded}
 use Rattle.circuit.specs.declared.gates.Folded.TheVariants.{Wire, And, Or, Gate}
@@ -110,14 +111,14 @@ product_grows [] ys n = grows_same n
 product_grows (x ∷ xs) [] n = grows_same n
 product_grows (x ∷ xs) (y ∷ ys) n = let q = product_n xs (lower y ys) n in grows_then (product_grows xs (lower y ys) n) (product_row_grows x (y ∷ ys) q.1.0 q.0)
 
-pub shift_grows : (left : Bool) (b : Literal) (w k : ℕ) (xs cs : List Literal) (n : Net) → Grows n (shift_n left b w k xs cs n).0
-shift_grows left b w k xs [] n = grows_same n
-shift_grows left b w k xs (c ∷ cs) n =
-    let r = choose_n c (moved left b k xs) xs n in
+pub shift_grows : (direction : Direction) (b : Literal) (w k : ℕ) (xs cs : List Literal) (n : Net) → Grows n (shift_n direction b w k xs cs n).0
+shift_grows direction b w k xs [] n = grows_same n
+shift_grows direction b w k xs (c ∷ cs) n =
+    let r = choose_n c (moved direction b k xs) xs n in
     let a = any_n (c ∷ cs) low n in
-    let stage = grows_then (choose_grows c (moved left b k xs) xs n) (shift_grows left b w (k + k) r.1 cs r.0) in
+    let stage = grows_then (choose_grows c (moved direction b k xs) xs n) (shift_grows direction b w (k + k) r.1 cs r.0) in
     let out = grows_then (any_grows (c ∷ cs) low n) (choose_grows a.1 (fill b xs) xs a.0) in
-    elim (ltb k w) as (λ t. Grows n (cond t (shift_n left b w (k + k) r.1 cs r.0) (choose_n a.1 (fill b xs) xs a.0)).0) [ true ↦ stage | false ↦ out ]
+    elim (ltb k w) as (λ t. Grows n (cond t (shift_n direction b w (k + k) r.1 cs r.0) (choose_n a.1 (fill b xs) xs a.0)).0) [ true ↦ stage | false ↦ out ]
 
 pub denied_grows : (xs : List Literal) (n : Net) → Grows n (denied_n xs n)
 denied_grows [] n = grows_same n

@@ -1,5 +1,6 @@
 -- Each operation's circuit computes the operation on words, and keeps the width.
 use Rattle.std.proofs.Common.{◌≡◌, ◌+◌, ◌*◌, ◌%◌, ◌^◌, ◌<◌, Bool, true, false, cond, ◌&&◌, ◌||◌, eqb, List, [], ◌∷◌, length, sym, refl, ap, ◌∙◌, ap₂, add-zero, arith}
+use Rattle.circuit.specs.declared.shifting.Direction.TheVariants.{Left, Right}
 use mathlib.Core.Bool.{false≢true}
 use Rattle.words.specs.Words.{pick, bitwise, xor, do1, do2}
 use Rattle.words.specs.declared.UnaryOp.{UnaryOp}
@@ -27,9 +28,9 @@ length_binary Urem xs ys e = length_fill false xs
 length_binary And xs ys e = length_zip ◌&&◌ xs ys e
 length_binary Or xs ys e = length_zip ◌||◌ xs ys e
 length_binary Xor xs ys e = length_zip xor xs ys e
-length_binary Shl xs ys e = length_shift true false xs ys
-length_binary Lshr xs ys e = length_shift false false xs ys
-length_binary Ashr xs ys e = length_shift false (top_of false xs) xs ys
+length_binary Shl xs ys e = length_shift Left false xs ys
+length_binary Lshr xs ys e = length_shift Right false xs ys
+length_binary Ashr xs ys e = length_shift Right (top_of false xs) xs ys
 length_binary Comp xs ys e = length_flag false (equal_b xs ys true) xs
 length_binary Ult xs ys e = length_flag false (ult_b xs ys) xs
 length_binary Slt xs ys e = length_flag false (slt_b xs ys) xs

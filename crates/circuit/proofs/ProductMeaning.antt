@@ -1,5 +1,6 @@
 -- The rows of a product and the stages of a shift make words that spell the product with its carries, and the shifted word.
 use Rattle.std.proofs.Common.{ℕ, ◌+◌, Bool, true, false, cond, ◌&&◌, ltb, List, [], ◌∷◌, map, ap, ap₂}
+use Rattle.circuit.specs.declared.shifting.Direction.{Direction}
 use Rattle.clauses.specs.declared.literal.Literal.{Literal}
 use Rattle.circuit.specs.Bits.{zip_b, add_b, carry_b, lower, mul_b, carries_b, shift_b}
 use Rattle.circuit.specs.Nets.{Net}
@@ -69,15 +70,15 @@ makes_word_cond : {n : Net} {a b : Net × List Literal} {f g : (ℕ → Bool) �
 makes_word_cond true a b = a
 makes_word_cond false a b = b
 
-pub shift_makes : {n : Net} {b : Literal} {xs cs : List Literal} {h : (ℕ → Bool) → Bool} {f g : (ℕ → Bool) → List Bool} (left : Bool) (v k : ℕ) → Whole n → Carries n b h → Spells n xs f → Spells n cs g
-    → MakesWord n (shift_n left b v k xs cs n) (λ s. shift_b left (h s) v k (f s) (g s))
-shift_makes {b = b} {cs = cs} {h = h} {f = f} left v k w cb x c = makes_word_as w (λ s e. ap (shift_b left (h s) v k (f s)) (c.means s e)) (each cs k w cb x c.below)
+pub shift_makes : {n : Net} {b : Literal} {xs cs : List Literal} {h : (ℕ → Bool) → Bool} {f g : (ℕ → Bool) → List Bool} (direction : Direction) (v k : ℕ) → Whole n → Carries n b h → Spells n xs f → Spells n cs g
+    → MakesWord n (shift_n direction b v k xs cs n) (λ s. shift_b direction (h s) v k (f s) (g s))
+shift_makes {b = b} {cs = cs} {h = h} {f = f} direction v k w cb x c = makes_word_as w (λ s e. ap (shift_b direction (h s) v k (f s)) (c.means s e)) (each cs k w cb x c.below)
   where
     each : (cs : List Literal) (k : ℕ) {n : Net} {xs : List Literal} {f : (ℕ → Bool) → List Bool} → Whole n → Carries n b h → Spells n xs f → WordBelow n.next cs
-        → MakesWord n (shift_n left b v k xs cs n) (λ s. shift_b left (h s) v k (f s) (map (truth_of s) cs))
+        → MakesWord n (shift_n direction b v k xs cs n) (λ s. shift_b direction (h s) v k (f s) (map (truth_of s) cs))
     each [] k w cb x bc = makes_word_none x
     each (c ∷ cs) k w cb x bc =
-        let r = choose_makes w (carries_itself bc.0) (spells_moved left k cb x) x in
+        let r = choose_makes w (carries_itself bc.0) (spells_moved direction k cb x) x in
         let a = any_makes {xs = c ∷ cs} w (spells_itself bc) (carries_low w) in
         makes_word_cond (ltb k v)
         (makes_word_after r.defines (each cs (k + k) (r.defines.whole w) (carries_later w r.defines cb) r.spells (below_later r.defines cs bc.1)))

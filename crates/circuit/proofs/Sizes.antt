@@ -1,5 +1,7 @@
 -- How many numbers and variables each circuit takes, for words of so many bits.
 use Rattle.std.proofs.Common.{◌≡◌, ℕ, zero, suc, ◌+◌, ◌*◌, ◌^◌, ◌≤◌, Bool, true, false, cond, ltb, List, [], ◌∷◌, length, sym, refl, ap, ◌∙◌, subst, mul_assoc, suc-mul, add-mul, mul-le-mul_left, pow-suc, mul-one, mul-suc, arith}
+use Rattle.circuit.specs.declared.shifting.Direction.{Direction}
+use Rattle.circuit.specs.declared.shifting.Direction.TheVariants.{Left, Right}
 use Rattle.std.proofs.lemmas.List.{length-append}
 use Rattle.circuit.proofs.Moving.{length_moved}
 use Rattle.circuit.proofs.NewWords.{length_wires}
@@ -150,7 +152,7 @@ any_grows (x ∷ xs) c n =
     record { written = omega (arith, b.written, r.written); made = omega (arith, b.made, r.made) }
 
 -- a chosen word is as long as the second
-length_choose : (s : Literal) (xs ys : List Literal) (n : Net) → length xs ≡ length ys → length (choose_n s xs ys n).1 ≡ length ys
+pub length_choose : (s : Literal) (xs ys : List Literal) (n : Net) → length xs ≡ length ys → length (choose_n s xs ys n).1 ≡ length ys
 length_choose s [] [] n e = refl
 length_choose s [] (y ∷ ys) n e = e
 length_choose s (x ∷ xs) [] n e = omega (arith, e)
@@ -161,26 +163,26 @@ either_grows true p q n a v g h = g refl
 either_grows false p q n a v g h = h refl
 
 -- a barrel of t stages: after t doublings the place k is not below the width
-pub shift_grows : (t : ℕ) (left : Bool) (b : Literal) (w k : ℕ) (xs cs : List Literal) (n : Net) → w ≤ k * 2 ^ t → Grows n (shift_n left b w k xs cs n).0 ((16 * t + 16) * length xs + 10 * length cs) ((t + 1) * length xs + length cs)
-shift_grows t left b w k xs [] n h = grows_none n _ _
-shift_grows zero left b w k xs (c ∷ cs) n h = either_grows (ltb k w) _ _ n _ _
+pub shift_grows : (t : ℕ) (direction : Direction) (b : Literal) (w k : ℕ) (xs cs : List Literal) (n : Net) → w ≤ k * 2 ^ t → Grows n (shift_n direction b w k xs cs n).0 ((16 * t + 16) * length xs + 10 * length cs) ((t + 1) * length xs + length cs)
+shift_grows t direction b w k xs [] n h = grows_none n _ _
+shift_grows zero direction b w k xs (c ∷ cs) n h = either_grows (ltb k w) _ _ n _ _
     (λ e. absurd (omega (arith, ltb-true k w e, h, mul-one k)))
     (λ e.
     let a = any_n (c ∷ cs) low n in
     let g = any_grows (c ∷ cs) low n in
     let r = choose_grows a.1 (fill b xs) xs a.0 in
     record { written = omega (arith, g.written, r.written); made = omega (arith, g.made, r.made) })
-shift_grows (suc t) left b w k xs (c ∷ cs) n h =
+shift_grows (suc t) direction b w k xs (c ∷ cs) n h =
     let one : (16 * suc t + 16) * length xs ≡ 16 * length xs + (16 * t + 16) * length xs = ap (λ m. m * length xs) (sixteen t) ∙ add-mul 16 (16 * t + 16) (length xs) in
     let two : (suc t + 1) * length xs ≡ length xs + (t + 1) * length xs = ap (λ m. m * length xs) (another t) ∙ (add-mul 1 (t + 1) (length xs) ∙ omega arith) in
     either_grows (ltb k w) _ _ n _ _
     (λ e.
-    let m = choose_n c (moved left b k xs) xs n in
-    let long : length m.1 ≡ length xs = length_choose c (moved left b k xs) xs n (length_moved left b k xs) in
-    let g = choose_grows c (moved left b k xs) xs n in
-    let r = shift_grows t left b w (k + k) m.1 cs m.0 (omega (arith, h, doubled)) in
-    let r1 = subst (λ l. length (shift_n left b w (k + k) m.1 cs m.0).0.out ≤ length m.0.out + ((16 * t + 16) * l + 10 * length cs)) long r.written in
-    let r2 = subst (λ l. (shift_n left b w (k + k) m.1 cs m.0).0.next ≤ m.0.next + ((t + 1) * l + length cs)) long r.made in
+    let m = choose_n c (moved direction b k xs) xs n in
+    let long : length m.1 ≡ length xs = length_choose c (moved direction b k xs) xs n (length_moved direction b k xs) in
+    let g = choose_grows c (moved direction b k xs) xs n in
+    let r = shift_grows t direction b w (k + k) m.1 cs m.0 (omega (arith, h, doubled)) in
+    let r1 = subst (λ l. length (shift_n direction b w (k + k) m.1 cs m.0).0.out ≤ length m.0.out + ((16 * t + 16) * l + 10 * length cs)) long r.written in
+    let r2 = subst (λ l. (shift_n direction b w (k + k) m.1 cs m.0).0.next ≤ m.0.next + ((t + 1) * l + length cs)) long r.made in
     record { written = omega (arith, g.written, r1, one); made = omega (arith, g.made, r2, two) })
     (λ e.
     let a = any_n (c ∷ cs) low n in
@@ -340,8 +342,8 @@ module _ (w : ℕ) (two : 2 ≤ w) (few : w ≤ 64) (xs ys : List Literal) (lx :
       let h = choose_grows a.1 xs ys a.0 in
       record { written = omega (arith, g.written, h.written, lt, ly); made = omega (arith, g.made, h.made, lt, ly) }
 
-  shifted : (left : Bool) (b : Literal) (n : Net) → Grows n (shift_n left b (length xs) 1 xs ys n).0 (256 * w) (64 * w)
-  shifted left b n = let g = shift_grows 6 left b (length xs) 1 xs ys n (omega (arith, lx)) in record { written = omega (arith, g.written, lx, ly); made = omega (arith, g.made, lx, ly) }
+  shifted : (direction : Direction) (b : Literal) (n : Net) → Grows n (shift_n direction b (length xs) 1 xs ys n).0 (256 * w) (64 * w)
+  shifted direction b n = let g = shift_grows 6 direction b (length xs) 1 xs ys n (omega (arith, lx)) in record { written = omega (arith, g.written, lx, ly); made = omega (arith, g.made, lx, ly) }
 
   pub binary_grows : (o : BinaryOp) (n : Net) → Grows n (binary_n o xs ys n).0 (4 * load2 w o) (load2 w o)
   binary_grows Add n = let g = add_grows xs ys low n in record { written = omega (arith, g.written, lx); made = omega (arith, g.made, lx) }
@@ -356,9 +358,9 @@ module _ (w : ℕ) (two : 2 ≤ w) (few : w ≤ 64) (xs ys : List Literal) (lx :
   binary_grows And n = let g = bitwise_grows Conjunction xs ys n in record { written = omega (arith, g.written, lx); made = omega (arith, g.made, lx) }
   binary_grows Or n = let g = bitwise_grows Disjunction xs ys n in record { written = omega (arith, g.written, lx); made = omega (arith, g.made, lx) }
   binary_grows Xor n = let g = bitwise_grows Exclusive xs ys n in record { written = omega (arith, g.written, lx); made = omega (arith, g.made, lx) }
-  binary_grows Shl n = let g = shifted true low n in record { written = omega (arith, g.written); made = omega (arith, g.made) }
-  binary_grows Lshr n = let g = shifted false low n in record { written = omega (arith, g.written); made = omega (arith, g.made) }
-  binary_grows Ashr n = let g = shifted false (top_of low xs) n in record { written = omega (arith, g.written); made = omega (arith, g.made) }
+  binary_grows Shl n = let g = shifted Left low n in record { written = omega (arith, g.written); made = omega (arith, g.made) }
+  binary_grows Lshr n = let g = shifted Right low n in record { written = omega (arith, g.written); made = omega (arith, g.made) }
+  binary_grows Ashr n = let g = shifted Right (top_of low xs) n in record { written = omega (arith, g.written); made = omega (arith, g.made) }
   binary_grows Comp n = let g = equal_grows xs ys high n in record { written = omega (arith, g.written, lx); made = omega (arith, g.made, lx) }
   binary_grows Ult n = let g = less_grows xs ys n in record { written = omega (arith, g.written, lx); made = omega (arith, g.made, lx) }
   binary_grows Slt n = let g = less_grows (topped xs ys) (topped ys xs) n in record { written = omega (arith, g.written, topped_long xs ys, lx); made = omega (arith, g.made, topped_long xs ys, lx) }

@@ -1,10 +1,10 @@
 -- A builder's steps: each has room if the whole has, and together they write what they write one after the other.
-use Rattle.std.proofs.Common.{◌≡◌, ℕ, ◌<◌, ◌≤◌, List, [], ◌∷◌, ◌++◌, length, take, sym, refl, ap, ◌∙◌, subst, append_assoc, arith, length-append, length-take-le}
+use Rattle.std.proofs.Common.{◌≡◌, List, [], ◌∷◌, sym, refl, ap, ◌∙◌, subst, append_assoc, arith}
 use Rattle.clauses.specs.declared.literal.Literal.{Literal}
 use Rattle.circuit.specs.Nets.{Net, clause, said}
 use Rattle.circuit.specs.Parts.{appended}
 use Rattle.circuit.specs.Built.{Written, Fits, Wrote}
-use Rattle.circuit.proofs.Growing.{Grows, grows_same, said_grows}
+use Rattle.circuit.proofs.Growing.{Grows, said_grows}
 
 -- nothing is written yet
 pub wrote_none : (b : Written) → Wrote b b b.net
@@ -35,12 +35,6 @@ wrote_here w v = record { net = refl; size = v.size ∙ w.size }
 -- the first number of a clause, and then the others
 pub fits_literal : {b : Written} (l : Literal) (ls : List Literal) → Fits b (said (l ∷ ls) b.net) → Fits b (appended (l.0 ∷ []) b.net)
 fits_literal {b} l ls f = fits_first (subst (Grows (appended (l.0 ∷ []) b.net)) (said_cons l ls b.net) (said_grows ls (appended (l.0 ∷ []) b.net))) f
-
-pub fits_literals : {b b' : Written} (l : Literal) (ls : List Literal) → Wrote b b' (appended (l.0 ∷ []) b.net) → Fits b (said (l ∷ ls) b.net) → Fits b' (said ls b'.net)
-fits_literals {b} l ls w f = fits_next (said ls) w (grows_same (said ls (appended (l.0 ∷ []) b.net))) (subst (Fits b) (sym (said_cons l ls b.net)) f)
-
-pub wrote_literals : {b b' b'' : Written} (l : Literal) (ls : List Literal) → Wrote b b' (appended (l.0 ∷ []) b.net) → Wrote b' b'' (said ls b'.net) → Wrote b b'' (said (l ∷ ls) b.net)
-wrote_literals {b} {b'} {b''} l ls w v = subst (Wrote b b'') (said_cons l ls b.net) (wrote_next (said ls) w v)
 
 -- a step that goes on from the literals s of the step before, which the code has as r
 pub fits_then : {R : Type 0} (c : R → Net → Net) {b b' : Written} {n m : Net} {r s : R} → Wrote b b' n → r ≡ s → Grows (c s n) m → Fits b m → Fits b' (c r b'.net)

@@ -1,6 +1,8 @@
 -- Words as lists of bits, the lowest first, and the circuits on them: each operation as gates do it. The name
 -- of a circuit on bits ends in _b; that of the same circuit on literals, which makes a net larger, in _n.
 use Rattle.std.specs.Prelude.{ℕ, zero, suc, ◌+◌, ◌-◌, ◌*◌, ◌/◌, Bool, true, false, cond, not, ◌&&◌, ◌||◌, List, [], ◌∷◌, length, nat_lt, slice_index_or}
+use Rattle.circuit.specs.declared.shifting.Direction.{Direction}
+use Rattle.circuit.specs.declared.shifting.Direction.TheVariants.{Left, Right}
 use Rattle.words.specs.Words.{odd, xor}
 use Rattle.words.specs.declared.UnaryOp.{UnaryOp}
 use Rattle.words.specs.declared.UnaryOp.TheVariants.{Not, Neg}
@@ -141,15 +143,15 @@ table f zero i = []
 table f (suc n) i = f i ∷ table f n (suc i)
 
 -- to the left, or to the right
-abbrev pub moved : {A : Type 0} → Bool → A → ℕ → List A → List A
-moved true b k xs = table (up_one b k xs) (length xs) 0
-moved false b k xs = table (down_one b k xs) (length xs) 0
+abbrev pub moved : {A : Type 0} → Direction → A → ℕ → List A → List A
+moved Left b k xs = table (up_one b k xs) (length xs) 0
+moved Right b k xs = table (down_one b k xs) (length xs) 0
 
 -- A barrel: a stage for each bit of the count whose place k is below the width n; a 1 among the other
 -- bits shifts everything out.
-abbrev pub shift_b : Bool → Bool → ℕ → ℕ → List Bool → List Bool → List Bool
-shift_b left b n k xs [] = xs
-shift_b left b n k xs (c ∷ cs) = cond (nat_lt k n) (shift_b left b n (k + k) (zip_b (cond c) (moved left b k xs) xs) cs) (zip_b (cond (any_b (c ∷ cs) false)) (fill b xs) xs)
+abbrev pub shift_b : Direction → Bool → ℕ → ℕ → List Bool → List Bool → List Bool
+shift_b direction b n k xs [] = xs
+shift_b direction b n k xs (c ∷ cs) = cond (nat_lt k n) (shift_b direction b n (k + k) (zip_b (cond c) (moved direction b k xs) xs) cs) (zip_b (cond (any_b (c ∷ cs) false)) (fill b xs) xs)
 
 abbrev pub top_of : {A : Type 0} → A → List A → A
 top_of z [] = z
@@ -169,9 +171,9 @@ binary_b Urem xs ys = fill false xs
 binary_b And xs ys = zip_b ◌&&◌ xs ys
 binary_b Or xs ys = zip_b ◌||◌ xs ys
 binary_b Xor xs ys = zip_b xor xs ys
-binary_b Shl xs ys = shift_b true false (length xs) 1 xs ys
-binary_b Lshr xs ys = shift_b false false (length xs) 1 xs ys
-binary_b Ashr xs ys = shift_b false (top_of false xs) (length xs) 1 xs ys
+binary_b Shl xs ys = shift_b Left false (length xs) 1 xs ys
+binary_b Lshr xs ys = shift_b Right false (length xs) 1 xs ys
+binary_b Ashr xs ys = shift_b Right (top_of false xs) (length xs) 1 xs ys
 binary_b Comp xs ys = flag false (equal_b xs ys true) xs
 binary_b Ult xs ys = flag false (ult_b xs ys) xs
 binary_b Slt xs ys = flag false (slt_b xs ys) xs

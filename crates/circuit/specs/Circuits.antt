@@ -1,5 +1,7 @@
 -- The circuits on literals: each follows one on bits, gate by gate, and its order of gates is the order of its clauses.
-use Rattle.std.specs.Prelude.{ℕ, ◌+◌, Bool, true, false, cond, List, [], ◌∷◌, ◌++◌, length, nat_lt}
+use Rattle.std.specs.Prelude.{ℕ, ◌+◌, cond, List, [], ◌∷◌, ◌++◌, length, nat_lt}
+use Rattle.circuit.specs.declared.shifting.Direction.{Direction}
+use Rattle.circuit.specs.declared.shifting.Direction.TheVariants.{Left, Right}
 use Rattle.words.specs.declared.UnaryOp.{UnaryOp}
 use Rattle.words.specs.declared.UnaryOp.TheVariants.{Not, Neg}
 use Rattle.words.specs.declared.BinaryOp.{BinaryOp}
@@ -15,11 +17,6 @@ use Rattle.circuit.specs.Gates.{and_n, or_n, xor_n, majority_n, choice_n}
 abbrev pub inverted : List Literal → List Literal
 inverted [] = []
 inverted (x ∷ xs) = negated x ∷ inverted xs
-
--- the word, inverted if asked
-abbrev pub turned : Bool → List Literal → List Literal
-turned true xs = inverted xs
-turned false xs = xs
 
 -- bit by bit
 abbrev pub bit_n : Bitwise → Literal → Literal → Net → Net × Literal
@@ -70,11 +67,11 @@ abbrev pub ite_n : List Literal → List Literal → List Literal → Net → Ne
 ite_n ts xs ys n = let a = any_n ts low n in choose_n a.1 xs ys a.0
 
 -- a barrel: w is the width, k the place of the count's first bit, b what comes in
-abbrev pub shift_n : Bool → Literal → ℕ → ℕ → List Literal → List Literal → Net → Net × List Literal
-shift_n left b w k xs [] n = (n, xs)
-shift_n left b w k xs (c ∷ cs) n =
+abbrev pub shift_n : Direction → Literal → ℕ → ℕ → List Literal → List Literal → Net → Net × List Literal
+shift_n direction b w k xs [] n = (n, xs)
+shift_n direction b w k xs (c ∷ cs) n =
     cond (nat_lt k w)
-    (let r = choose_n c (moved left b k xs) xs n in shift_n left b w (k + k) r.1 cs r.0)
+    (let r = choose_n c (moved direction b k xs) xs n in shift_n direction b w (k + k) r.1 cs r.0)
     (let a = any_n (c ∷ cs) low n in choose_n a.1 (fill b xs) xs a.0)
 
 -- a row of a product: ys if x, and qs
@@ -150,9 +147,9 @@ binary_n Urem xs ys n = (n, fill low xs)
 binary_n And xs ys n = bitwise_n Conjunction xs ys n
 binary_n Or xs ys n = bitwise_n Disjunction xs ys n
 binary_n Xor xs ys n = bitwise_n Exclusive xs ys n
-binary_n Shl xs ys n = shift_n true low (length xs) 1 xs ys n
-binary_n Lshr xs ys n = shift_n false low (length xs) 1 xs ys n
-binary_n Ashr xs ys n = shift_n false (top_of low xs) (length xs) 1 xs ys n
+binary_n Shl xs ys n = shift_n Left low (length xs) 1 xs ys n
+binary_n Lshr xs ys n = shift_n Right low (length xs) 1 xs ys n
+binary_n Ashr xs ys n = shift_n Right (top_of low xs) (length xs) 1 xs ys n
 binary_n Comp xs ys n = flagged xs (equal_n xs ys high n)
 binary_n Ult xs ys n = flagged xs (less_n xs ys n)
 binary_n Slt xs ys n = flagged xs (less_n (topped xs ys) (topped ys xs) n)

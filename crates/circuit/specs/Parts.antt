@@ -1,7 +1,6 @@
 -- The parts of circuits that the code does in functions of their own.
-use Rattle.std.specs.Prelude.{ℕ, Bool, true, false, List, [], ◌∷◌, ◌++◌}
+use Rattle.std.specs.Prelude.{ℕ, List, [], ◌∷◌, ◌++◌}
 use Rattle.clauses.specs.declared.literal.Literal.{Literal}
-use Rattle.circuit.specs.Bits.{topped}
 use Rattle.clauses.specs.Literals.{negated}
 use Rattle.circuit.specs.Nets.{Net, low, said}
 use Rattle.circuit.specs.Gates.{and_n, xor_n}
@@ -10,11 +9,6 @@ use Rattle.circuit.specs.Circuits.{full_n, add_n, less_n, any_n, row_n, equated_
 -- more numbers
 abbrev pub appended : List ℕ → Net → Net
 appended xs n = record { next = n.next; out = n.out ++ xs }
-
--- a word as it is compared with another: as it is, or as two's complement
-abbrev pub compared : Bool → List Literal → List Literal → List Literal
-compared true xs ys = topped xs ys
-compared false xs ys = xs
 
 -- c, and x and y equal
 unfoldable pub equal_bit_n : Literal → Literal → Literal → Net → Net × Literal

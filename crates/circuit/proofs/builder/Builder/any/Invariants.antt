@@ -3,5 +3,5 @@ use Rattle.circuit.specs.Circuits.{any_n}
 use Rattle.circuit.specs.Built.{Wrote}
 use Rattle.circuit.proofs.builder.Builder.any.Given as goal
 
-abbrev pub invariant-loop-i : goal.invariant-loop-i
-invariant-loop-i l = Wrote l.initial.self l.self l.self.net × (any_n l.x l.initial.so_far l.initial.self.net ≡ any_n (drop l.i l.x) l.so_far l.self.net)
+abbrev pub invariant-loop-bit : goal.invariant-loop-bit
+invariant-loop-bit l = Wrote l.initial.self l.self l.self.net × (any_n l.x l.initial.so_far l.initial.self.net ≡ any_n (drop l.bit-index l.x) l.so_far l.self.net)

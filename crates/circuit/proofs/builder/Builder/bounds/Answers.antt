@@ -1,3 +1,4 @@
+use Rattle.std.proofs.Common.{rules}
 use Rattle.std.proofs.Common.{◌≡◌, List, [], ◌∷◌, ap, ◌∙◌}
 use Rattle.clauses.specs.declared.literal.Literal.{Literal}
 use Rattle.clauses.specs.Literals.{negated}
@@ -13,38 +14,38 @@ two : {p q r s : Literal} → p ≡ q → r ≡ s → ◌≡◌ {A = List Litera
 two {p} {q} {r} {s} e f = ap (λ z. z ∷ r ∷ []) e ∙ ap (λ z. q ∷ z ∷ []) f
 
 pub less-less-requires : goal.less-less-requires
-less-less-requires c =
+less-less-requires g c =
     let l = less_n c.args.remainder.now c.args.y.now c.args.self.now.net in
     let a = any_n c.args.y.now low l.0 in
     let m = said (negated a.1 ∷ l.1 ∷ []) a.0 in
-    record { operand = c.requires.operand; room = fits_first (grows_then (any_grows c.args.y.now low l.0) (grows_then (said_grows (negated a.1 ∷ l.1 ∷ []) a.0) (unless_grows a.1 c.args.quotient.now m))) c.requires.room }
+    (search rules, fits_first (grows_then (any_grows c.args.y.now low l.0) (grows_then (said_grows (negated a.1 ∷ l.1 ∷ []) a.0) (unless_grows a.1 c.args.quotient.now m))) c.requires)
 
 pub any-some-requires : goal.any-some-requires
-any-some-requires c =
+any-some-requires g c =
     let l = less_n c.args.remainder.now c.args.y.now c.args.self.now.net in
     let a = any_n c.args.y.now low l.0 in
     let m = said (negated a.1 ∷ l.1 ∷ []) a.0 in
-    fits_next (λ k. (any_n c.args.y.now low k).0) c.less-less.ensures.wrote (grows_then (said_grows (negated a.1 ∷ l.1 ∷ []) a.0) (unless_grows a.1 c.args.quotient.now m)) c.requires.room
+    fits_next (λ k. (any_n c.args.y.now low k).0) c.less-less.ensures.wrote (grows_then (said_grows (negated a.1 ∷ l.1 ∷ []) a.0) (unless_grows a.1 c.args.quotient.now m)) c.requires
 
 pub clause-requires : goal.clause-requires
-clause-requires c =
+clause-requires g c =
     let l = less_n c.args.remainder.now c.args.y.now c.args.self.now.net in
     let a = any_n c.args.y.now low l.0 in
     let m = said (negated a.1 ∷ l.1 ∷ []) a.0 in
     let wrote = wrote_next (λ k. (any_n c.args.y.now low k).0) c.less-less.ensures.wrote c.any-some.ensures.wrote in
     let some = c.any-some.ensures.output ∙ ap (λ k. (any_n c.args.y.now low k).1) c.less-less.ensures.wrote.net in
-    fits_then said wrote (two (c.negated-zero.ensures.value ∙ ap negated some) c.less-less.ensures.output) (unless_grows a.1 c.args.quotient.now m) c.requires.room
+    fits_then said wrote (two (c.negated.ensures.value ∙ ap negated some) c.less-less.ensures.output) (unless_grows a.1 c.args.quotient.now m) c.requires
 
 pub unless-requires : goal.unless-requires
-unless-requires c =
+unless-requires g c =
     let wrote = wrote_next (λ k. (any_n c.args.y.now low k).0) c.less-less.ensures.wrote c.any-some.ensures.wrote in
     let some = c.any-some.ensures.output ∙ ap (λ k. (any_n c.args.y.now low k).1) c.less-less.ensures.wrote.net in
-    let both = wrote_then said wrote (two (c.negated-zero.ensures.value ∙ ap negated some) c.less-less.ensures.output) c.clause.ensures in
-    fits_then (λ s k. unless_n s c.args.quotient.now k) both some (grows_same _) c.requires.room
+    let both = wrote_then said wrote (two (c.negated.ensures.value ∙ ap negated some) c.less-less.ensures.output) c.clause.ensures in
+    fits_then (λ s k. unless_n s c.args.quotient.now k) both some (grows_same _) c.requires
 
 pub returns : goal.returns
-returns c =
+returns g c =
     let wrote = wrote_next (λ k. (any_n c.args.y.now low k).0) c.less-less.ensures.wrote c.any-some.ensures.wrote in
     let some = c.any-some.ensures.output ∙ ap (λ k. (any_n c.args.y.now low k).1) c.less-less.ensures.wrote.net in
-    let both = wrote_then said wrote (two (c.negated-zero.ensures.value ∙ ap negated some) c.less-less.ensures.output) c.clause.ensures in
+    let both = wrote_then said wrote (two (c.negated.ensures.value ∙ ap negated some) c.less-less.ensures.output) c.clause.ensures in
     wrote_then (λ s k. unless_n s c.args.quotient.now k) both some c.unless.ensures

@@ -3,5 +3,5 @@ use Rattle.circuit.specs.Circuits.{none_n}
 use Rattle.circuit.specs.Built.{Wrote}
 use Rattle.circuit.proofs.builder.Builder.exclude.Given as goal
 
-abbrev pub invariant-loop-i : goal.invariant-loop-i
-invariant-loop-i l = Wrote l.initial.self l.self l.self.net × (none_n l.b l.x l.initial.self.net ≡ none_n l.b (drop l.i l.x) l.self.net)
+abbrev pub invariant-loop-bit : goal.invariant-loop-bit
+invariant-loop-bit l = Wrote l.initial.self l.self l.self.net × (none_n l.b l.x l.initial.self.net ≡ none_n l.b (drop l.bit-index l.x) l.self.net)
