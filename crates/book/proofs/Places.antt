@@ -1,6 +1,7 @@
 -- Terms in nodes: what stays when nodes are added, and a root more.
-use Rattle.std.proofs.Common.{◌≡◌, ℕ, suc, ◌+◌, ◌<◌, ◌≤◌, ◌≢◌, List, [], ◌∷◌, ◌++◌, length, get_or, set, sym, refl, ap, ◌∙◌, subst, arith}
-use Rattle.std.proofs.lemmas.List.{get_or-set_same, get_or-set_other}
+use Rattle.std.proofs.Common.{◌≡◌, ℕ, ◌+◌, ◌<◌, ◌≤◌, EachIndex, List, [], ◌∷◌, ◌++◌, length, get_or, refl, ap, ◌∙◌, inl, inr, arith}
+use Rattle.std.proofs.lemmas.List.{get_or_append_left, get_or_at, length-append}
+use Rattle.std.proofs.lemmas.Bool.{cases_eq}
 use Rattle.terms.specs.declared.node.Node.{Node}
 use Rattle.terms.specs.declared.node.Node.TheVariants.{Any}
 use Rattle.terms.specs.declared.rule.RuleNodes.{RuleNodes}
@@ -39,35 +40,46 @@ stands_kept ns ms n same i (ite t x y) h r =
       stands_kept ns ms n same r.2 y (omega arith) r.9,
     )
 
--- one root more, at the place after the others
-pub rooted_more : (ns ms : List Node) (n m : ℕ) → n ≤ m → SameBelow ns ms n → (roots : List ℕ) (k : ℕ) (es : List Term) (root : ℕ) (e : Term) → k + length es < length roots → root < m → Stands ms root e → Rooted ns n roots k es → Rooted ms m (set roots (k + length es) root) k (es ++ (e ∷ []))
-rooted_more ns ms n m le same roots k [] root e room lt there r =
-    let at : get_or (set roots (k + 0) root) k 0 ≡ root = ap (λ j. get_or (set roots j root) k 0) (omega arith) ∙ get_or-set_same roots k root 0 (omega arith) in
-    (subst (λ j. j < m) (sym at) lt, subst (λ j. Stands ms j e) (sym at) there, tt)
-rooted_more ns ms n m le same roots k (f ∷ es) root e room lt there r =
-    let j : k + suc (length es) ≡ suc k + length es = omega arith in
-    let ne : k ≢ k + suc (length es) = omega arith in
-    let at : get_or (set roots (k + suc (length es)) root) k 0 ≡ get_or roots k 0 = get_or-set_other roots (k + suc (length es)) k root 0 ne in
-    let below = r.0 in (
-      subst (λ i. i < m) (sym at) (omega arith),
-      subst (λ i. Stands ms i f) (sym at) (stands_kept ns ms n same (get_or roots k 0) f below r.1),
-      subst (λ i. Rooted ms m (set roots i root) (suc k) (es ++ (e ∷ []))) (sym j) (rooted_more ns ms n m le same roots (suc k) es root e (omega arith) lt there r.2),
-    )
+pub rooted_kept : (ns ms : List Node) → length ns ≤ length ms → SameBelow ns ms (length ns) → (roots : List ℕ) (es : List Term) → Rooted ns roots es → Rooted ms roots es
+rooted_kept ns ms le same [] [] r = tt
+rooted_kept ns ms le same [] (e ∷ es) r = absurd r
+rooted_kept ns ms le same (k ∷ ks) [] r = absurd r
+rooted_kept ns ms le same (k ∷ ks) (e ∷ es) r = let below = r.0.0 in ((omega arith, stands_kept ns ms (length ns) same k e below r.0.1), rooted_kept ns ms le same ks es r.1)
+
+-- one root more, after the others
+pub rooted_more : (ns : List Node) (roots : List ℕ) (es : List Term) (root : ℕ) (e : Term) → root < length ns → Stands ns root e → Rooted ns roots es → Rooted ns (roots ++ root ∷ []) (es ++ e ∷ [])
+rooted_more ns [] [] root e lt there r = ((lt, there), tt)
+rooted_more ns [] (f ∷ es) root e lt there r = absurd r
+rooted_more ns (k ∷ ks) [] root e lt there r = absurd r
+rooted_more ns (k ∷ ks) (f ∷ es) root e lt there r = (r.0, rooted_more ns ks es root e lt there r.1)
+
+pub inside_more : (roots : List ℕ) (root : ℕ) → root < 102 → EachIndex roots (λ k. get_or roots k 0 < 102) → EachIndex (roots ++ root ∷ []) (λ k. get_or (roots ++ root ∷ []) k 0 < 102)
+inside_more roots root lt all k h =
+    elim (cases_eq k (length roots)) [
+      | inl same ↦ rw (same, get_or_at roots root [] 0 (length roots) refl) lt
+      | inr ne ↦
+          let below : k < length roots = omega (arith, length-append roots (root ∷ [])) in
+          rw (get_or_append_left roots (root ∷ []) 0 k below) (all k below)
+    ]
 
 -- ---- a node is added
 
+pub pushed_count : (x x' : RuleNodes) (node : Node) → Pushed x x' node → length x'.nodes.items ≡ length x.nodes.items + 1
+pushed_count x x' node p = ap length p.nodes ∙ length-append x.nodes.items (node ∷ [])
+
+pub pushed_there : (x x' : RuleNodes) (node : Node) → Pushed x x' node → get_or x'.nodes.items (length x.nodes.items) (Any 0) ≡ node
+pushed_there x x' node p = ap (λ ns. get_or ns (length x.nodes.items) (Any 0)) p.nodes ∙ get_or_at x.nodes.items node [] (Any 0) (length x.nodes.items) refl
+
 pub pushed_kept : (x x' : RuleNodes) (node : Node) → Pushed x x' node → Kept x x'
 pushed_kept x x' node p =
-    let l = p.len in
     record {
-      grows = omega arith;
-      nodes = λ k h. let ne : k ≢ x.len = omega arith in ap (λ ns. get_or ns k (Any 0)) p.nodes ∙ get_or-set_other x.nodes x.len k node (Any 0) ne;
+      grows = omega (arith, pushed_count x x' node p);
+      nodes = λ k h. ap (λ ns. get_or ns k (Any 0)) p.nodes ∙ get_or_append_left x.nodes.items (node ∷ []) (Any 0) k h;
       width = p.width;
-      needed = p.needed;
     }
 
 pub kept_refl : (x : RuleNodes) → Kept x x
-kept_refl x = record { grows = omega arith; nodes = λ k h. refl; width = refl; needed = refl }
+kept_refl x = record { grows = omega arith; nodes = λ k h. refl; width = refl }
 
 pub kept_trans : (x y z : RuleNodes) → Kept x y → Kept y z → Kept x z
 kept_trans x y z p q =
@@ -77,5 +89,4 @@ kept_trans x y z p q =
       grows = omega arith;
       nodes = λ k l. q.nodes k (omega arith) ∙ p.nodes k l;
       width = q.width ∙ p.width;
-      needed = q.needed ∙ p.needed;
     }

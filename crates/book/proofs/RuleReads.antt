@@ -93,8 +93,8 @@ split_terms (suc n) (e ∷ es) h =
     let k = r.3 in
     (e ∷ r.0, r.1, r.2, omega arith, ap (λ l. e ∷ l) r.4)
 
-pub rule_read : (s : List ℕ) (p m q n left : ℕ) (v : Width) (x y z : RuleNodes) (roots : List ℕ) → IsHeaderRead s p v n m → IsTermsRead s m (n + 2) 32 x y roots q left → x.width ≡ v → x.needed ≡ n → z.width ≡ y.width → z.needed ≡ y.needed → z.nodes ≡ y.nodes → z.len ≡ y.len → z.roots ≡ roots → IsRuleRead s p z q
-rule_read s p m q n left v x y z roots f t xw xn zw zn znodes zlen zroots =
+pub rule_read : (s : List ℕ) (p m q n left : ℕ) (v : Width) (x y z : RuleNodes) (roots : List ℕ) → IsHeaderRead s p v n m → IsTermsRead s m (n + 2) 32 x y roots q left → x.width ≡ v → z.width ≡ y.width → z.nodes ≡ y.nodes → z.roots.items ≡ roots → IsRuleRead s p z q
+rule_read s p m q n left v x y z roots f t xw zw znodes zroots =
     let parts = split_terms n t.terms t.count in
     let r : Rule = record { width = v; needs = parts.0; from = parts.1; to = parts.2 } in
     let es : t.terms ≡ terms r = parts.4 in
@@ -110,9 +110,7 @@ rule_read s p m q n left v x y z roots f t xw xn zw zn znodes zlen zroots =
       ok = and_from _ _ (le-leb (length parts.0) 4 (omega arith)) (and_from _ _ (le-leb (ops_all (terms r)) 32 (omega arith)) (subst (λ l. ok_terms (bits v) l ≡ true) es (subst (λ u. ok_terms (bits u) t.terms ≡ true) xw t.ok)));
       represents = record {
         width = zw ∙ t.kept.width ∙ xw;
-        needed = zn ∙ t.kept.needed ∙ xn ∙ sym long;
-        rooted = subst (λ l. Rooted z.nodes z.len z.roots 0 l) es
-            (subst (λ ns. Rooted ns z.len z.roots 0 t.terms) (sym znodes) (subst (λ k. Rooted y.nodes k z.roots 0 t.terms) (sym zlen) (subst (λ k. Rooted y.nodes y.len k 0 t.terms) (sym zroots) t.rooted)));
+        rooted = rw (znodes, zroots, ← es) t.rooted;
       };
       longer = omega arith;
       within = t.within;

@@ -23,7 +23,8 @@ use Rattle.book.specs.Scan.{rest, Found, At}
 use Rattle.book.specs.Reading.{IsNumberRead, NoNumber, Pushed, IsLeafRead, NoLeaf, IsTermRead, NoTerm, IsTermsRead, NoTerms}
 use Rattle.book.proofs.Tokens.{one_token}
 use Rattle.book.proofs.Unique.{first_same, rest_same, never_empty, head, head_writes, Begins, begins, Parts, one, two, three, parts, applied_writes, applied_ok, applied_ops, list_begins, decimal_same}
-use Rattle.book.proofs.Places.{stands_kept, rooted_more, pushed_kept, kept_refl, kept_trans}
+use Rattle.book.proofs.Places.{stands_kept, rooted_kept, rooted_more, inside_more, pushed_count, pushed_there, pushed_kept, kept_refl, kept_trans}
+use Rattle.terms.proofs.Roots.{rooted_at}
 
 -- ---- the word at a place
 
@@ -100,7 +101,7 @@ pub leaf_read : (s : List ℕ) (p m q left root : ℕ) (l : Leaf) (x x' : RuleNo
 leaf_read s p m q left root l x x' f t =
     let n = t.number in
     let none = leaf_ops l n in
-    let more = t.pushed.len in
+    let more = pushed_count x x' _ t.pushed in
     let a = f.longer in
     let b = t.read.longer in
     let last = t.last in
@@ -112,7 +113,7 @@ leaf_read s p m q left root l x x' f t =
       longer = omega arith;
       within = t.read.within;
       rooted = omega arith;
-      stands = leaf_stands x'.nodes root n l (ap (λ i. get_or x'.nodes i (node.Any 0)) last ∙ t.pushed.there);
+      stands = leaf_stands x'.nodes.items root n l (ap (λ i. get_or x'.nodes.items i (node.Any 0)) last ∙ pushed_there x x' _ t.pushed);
       kept = pushed_kept x x' _ t.pushed;
       size = omega arith;
     }
@@ -135,39 +136,37 @@ leaf_too_large s p q n l v num bad m r ok h =
 
 -- ---- operations
 
-part_stands : {o : Operation} {es : List Term} (ns : List Node) (i n : ℕ) (roots : List ℕ) → Parts o es → n ≤ i → get_or ns i (node.Any 0) ≡ operation_node o roots → Rooted ns n roots 0 es → Stands ns i (applied o es)
-part_stands ns i n roots one le e r = let a = r.0 in (get_or roots 0 0, e, omega arith, r.1)
-part_stands ns i n roots two le e r =
-    let a = r.0 in
-    let b = r.2.0 in
-    (get_or roots 0 0, get_or roots 1 0, e, omega arith, omega arith, r.1, r.2.1)
-part_stands ns i n roots three le e r =
-    let a = r.0 in
-    let b = r.2.0 in
-    let d = r.2.2.0 in
-    (get_or roots 0 0, get_or roots 1 0, get_or roots 2 0, e, omega arith, omega arith, omega arith, r.1, r.2.1, r.2.2.1)
-
-rooted_kept : (ns ms : List Node) (n : ℕ) → ((k : ℕ) → k < n → get_or ms k (node.Any 0) ≡ get_or ns k (node.Any 0)) → (roots : List ℕ) (k : ℕ) (es : List Term) → Rooted ns n roots k es → Rooted ms n roots k es
-rooted_kept ns ms n same roots k [] r = tt
-rooted_kept ns ms n same roots k (e ∷ es) r = (r.0, stands_kept ns ms n same (get_or roots k 0) e r.0 r.1, rooted_kept ns ms n same roots (suc k) es r.2)
+part_stands : {o : Operation} {es : List Term} (ns ms : List Node) (roots : List ℕ) → Parts o es → length ns ≤ length ms → get_or ms (length ns) (node.Any 0) ≡ operation_node o roots → ((k : ℕ) → k < length ns → get_or ms k (node.Any 0) ≡ get_or ns k (node.Any 0)) → Rooted ns roots es → Stands ms (length ns) (applied o es)
+part_stands ns ms roots one le e same r =
+    let p = rooted_at ns roots _ 0 (omega arith) r in
+    (get_or roots 0 0, e, p.0, stands_kept ns ms (length ns) same _ _ p.0 p.1)
+part_stands ns ms roots two le e same r =
+    let p = rooted_at ns roots _ 0 (omega arith) r in
+    let q = rooted_at ns roots _ 1 (omega arith) r in
+    (get_or roots 0 0, get_or roots 1 0, e, p.0, q.0, stands_kept ns ms (length ns) same _ _ p.0 p.1, stands_kept ns ms (length ns) same _ _ q.0 q.1)
+part_stands ns ms roots three le e same r =
+    let p = rooted_at ns roots _ 0 (omega arith) r in
+    let q = rooted_at ns roots _ 1 (omega arith) r in
+    let l = rooted_at ns roots _ 2 (omega arith) r in
+    (get_or roots 0 0, get_or roots 1 0, get_or roots 2 0, e, p.0, q.0, l.0, stands_kept ns ms (length ns) same _ _ p.0 p.1, stands_kept ns ms (length ns) same _ _ q.0 q.1, stands_kept ns ms (length ns) same _ _ l.0 l.1)
 
 -- the node of an operation may be added after its parts
-pub operation_sound : {es : List Term} (w i : ℕ) (o : Operation) (ns : List Node) (roots : List ℕ) → Parts o es → Rooted ns i roots 0 es → sound w i (operation_node o roots) ≡ true
-operation_sound w i o ns roots one r = lt-ltb _ _ r.0
-operation_sound w i o ns roots two r = and_from _ _ (lt-ltb _ _ r.0) (lt-ltb _ _ r.2.0)
-operation_sound w i o ns roots three r = and_from _ _ (lt-ltb _ _ r.0) (and_from _ _ (lt-ltb _ _ r.2.0) (lt-ltb _ _ r.2.2.0))
+pub operation_sound : {es : List Term} (w : ℕ) (o : Operation) (ns : List Node) (roots : List ℕ) → Parts o es → Rooted ns roots es → sound w (length ns) (operation_node o roots) ≡ true
+operation_sound w o ns roots one r = lt-ltb _ _ (rooted_at ns roots _ 0 (omega arith) r).0
+operation_sound w o ns roots two r = and_from _ _ (lt-ltb _ _ (rooted_at ns roots _ 0 (omega arith) r).0) (lt-ltb _ _ (rooted_at ns roots _ 1 (omega arith) r).0)
+operation_sound w o ns roots three r = and_from _ _ (lt-ltb _ _ (rooted_at ns roots _ 0 (omega arith) r).0) (and_from _ _ (lt-ltb _ _ (rooted_at ns roots _ 1 (omega arith) r).0) (lt-ltb _ _ (rooted_at ns roots _ 2 (omega arith) r).0))
 
 pub arity_few : (o : Operation) → arity o ≤ 3
 arity_few (Unary o) = omega arith
 arity_few (Binary o) = omega arith
 arity_few Ite = omega arith
 
-pub operation_read : (s : List ℕ) (p m q left left' : ℕ) (o : Operation) (x y z : RuleNodes) (roots : List ℕ) → At s p (token.Operation o) m → IsTermsRead s m (arity o) left x y roots q left' → Pushed y z (operation_node o roots) → IsTermRead s p (left + 1) x z y.len q left'
+pub operation_read : (s : List ℕ) (p m q left left' : ℕ) (o : Operation) (x y z : RuleNodes) (roots : List ℕ) → At s p (token.Operation o) m → IsTermsRead s m (arity o) left x y roots q left' → Pushed y z (operation_node o roots) → IsTermRead s p (left + 1) x z (length y.nodes.items) q left'
 operation_read s p m q left left' o x y z roots f t push =
     let es = t.terms in
     let view = parts o es t.count in
     let some = applied_ops view in
-    let more = push.len in
+    let more = pushed_count y z _ push in
     let a = f.longer in
     let b = t.longer in
     let c = t.counted in
@@ -182,7 +181,7 @@ operation_read s p m q left left' o x y z roots f t push =
       longer = omega arith;
       within = t.within;
       rooted = omega arith;
-      stands = part_stands z.nodes y.len y.len roots view (omega arith) push.there (rooted_kept y.nodes z.nodes y.len kept.nodes roots 0 es t.rooted);
+      stands = part_stands y.nodes.items z.nodes.items roots view (omega arith) (pushed_there y z _ push) kept.nodes t.rooted;
       kept = kept_trans x y z t.kept kept;
       size = omega arith;
     }
@@ -221,12 +220,7 @@ ops_append : (es fs : List Term) → ops_all (es ++ fs) ≡ ops_all es + ops_all
 ops_append [] fs = omega arith
 ops_append (e ∷ es) fs = let h = ops_append es fs in omega arith
 
-zeros : (n k : ℕ) → get_or {A = ℕ} (replicate n 0) k 0 ≡ 0
-zeros zero k = refl
-zeros (suc n) zero = refl
-zeros (suc n) (suc k) = zeros n k
-
-pub no_terms_yet : (s : List ℕ) (p left : ℕ) (x : RuleNodes) → p ≤ length s → IsTermsRead s p 0 left x x (replicate 6 0) p left
+pub no_terms_yet : (s : List ℕ) (p left : ℕ) (x : RuleNodes) → p ≤ length s → IsTermsRead s p 0 left x x [] p left
 no_terms_yet s p left x le =
     record {
       terms = [];
@@ -236,19 +230,17 @@ no_terms_yet s p left x le =
       counted = omega arith;
       longer = omega arith;
       within = le;
-      places = refl;
-      inside = λ k h. let z = zeros 6 k in omega arith;
+      inside = λ k h. absurd (omega arith);
       rooted = tt;
       kept = kept_refl x;
       size = omega arith;
     }
 
-pub one_term_more : (s : List ℕ) (p q q' n left left' left'' root : ℕ) (x y z : RuleNodes) (roots : List ℕ) → n < 6 → z.len ≤ 102 → IsTermsRead s p n left x y roots q left' → IsTermRead s q left' y z root q' left'' → IsTermsRead s p (n + 1) left x z (set roots n root) q' left''
-one_term_more s p q q' n left left' left'' root x y z roots lt fits t u =
+pub one_term_more : (s : List ℕ) (p q q' n left left' left'' root : ℕ) (x y z : RuleNodes) (roots : List ℕ) → length z.nodes.items ≤ 102 → IsTermsRead s p n left x y roots q left' → IsTermRead s q left' y z root q' left'' → IsTermsRead s p (n + 1) left x z (roots ++ root ∷ []) q' left''
+one_term_more s p q q' n left left' left'' root x y z roots fits t u =
     let es = t.terms in
     let e = u.term in
     let count = t.count in
-    let places = t.places in
     let below = u.rooted in
     let ends = t.longer in
     let ends' = u.longer in
@@ -268,13 +260,8 @@ one_term_more s p q q' n left left' left'' root x y z roots lt fits t u =
       counted = omega arith;
       longer = omega arith;
       within = u.within;
-      places = length-set roots n root ∙ places;
-      inside = λ k h. elim (cases_eq k n) [
-        | inl same ↦ let at = ap (λ j. get_or (set roots n root) j 0) same ∙ get_or-set_same roots n root 0 (omega arith) in omega arith
-        | inr ne ↦ let at = get_or-set_other roots n k root 0 ne in let old = t.inside k h in omega arith
-      ];
-      rooted = subst (λ j. Rooted z.nodes z.len (set roots j root) 0 (es ++ (e ∷ []))) (let j : 0 + length es ≡ n = omega arith in j)
-          (rooted_more y.nodes z.nodes y.len z.len grows u.kept.nodes roots 0 es root e (omega arith) below u.stands t.rooted);
+      inside = inside_more roots root (omega arith) t.inside;
+      rooted = rooted_more z.nodes.items roots es root e below u.stands (rooted_kept y.nodes.items z.nodes.items grows u.kept.nodes roots es t.rooted);
       kept = kept_trans x y z t.kept u.kept;
       size = omega arith;
     }

@@ -1,5 +1,6 @@
 -- What comes of reading numbers, terms and rules from a place of a text on.
-use Rattle.std.specs.Prelude.{◌≡◌, ℕ, ◌+◌, ◌*◌, ◌^◌, ◌<◌, ◌≤◌, true, List, ◌∷◌, ◌++◌, length, get_or, codes, Result, MatchResult, ◌≢◌, slice_index, slice_index_or, slice_set}
+use Rattle.std.specs.Prelude.{◌≡◌, ℕ, ◌+◌, ◌*◌, ◌^◌, ◌<◌, ◌≤◌, true, List, [], ◌∷◌, ◌++◌, length, codes, Result, MatchResult, ◌≢◌, EachIndex, slice_index, slice_index_or}
+use Rattle.arrayvec.specs.ArrayVec.{array_vec_len}
 use Rattle.words.specs.declared.Width.{Width}
 use Rattle.words.specs.Words.{bits}
 use Rattle.terms.specs.declared.node.Node.{Node}
@@ -25,20 +26,16 @@ pub record IsNumberRead (s : List ℕ) (p n q : ℕ) : Type 0 where
 abbrev pub NoNumber : List ℕ → ℕ → Type 0
 NoNumber s p = (n : ℕ) (r : List (List ℕ)) → n < 2 ^ 64 → rest s p ≢ decimal n ∷ r
 
--- the nodes of x are kept in x', and so is what else it says
+-- the nodes of x are kept in x', and so is its width
 pub record Kept (x x' : RuleNodes) : Type 0 where
-  pub grows : x.len ≤ x'.len
-  pub nodes : (k : ℕ) → k < x.len → slice_index_or x'.nodes k (Any 0) ≡ slice_index_or x.nodes k (Any 0)
+  pub grows : array_vec_len x.nodes ≤ array_vec_len x'.nodes
+  pub nodes : (k : ℕ) → k < array_vec_len x.nodes → slice_index_or x'.nodes.items k (Any 0) ≡ slice_index_or x.nodes.items k (Any 0)
   pub width : x'.width ≡ x.width
-  pub needed : x'.needed ≡ x.needed
 
 -- a node is added to x
 pub record Pushed (x x' : RuleNodes) (node : Node) : Type 0 where
-  pub there : get_or x'.nodes x.len (Any 0) ≡ node
-  pub len : x'.len ≡ x.len + 1
-  pub nodes : x'.nodes ≡ slice_set x.nodes x.len node
+  pub nodes : x'.nodes.items ≡ x.nodes.items ++ node ∷ []
   pub width : x'.width ≡ x.width
-  pub needed : x'.needed ≡ x.needed
 
 -- from p to q the text has the number of a leaf of this kind, whose node is added
 pub record IsLeafRead (s : List ℕ) (p : ℕ) (l : Leaf) (x x' : RuleNodes) (root q : ℕ) : Type 0 where
@@ -46,7 +43,7 @@ pub record IsLeafRead (s : List ℕ) (p : ℕ) (l : Leaf) (x x' : RuleNodes) (ro
   pub read : IsNumberRead s p number q
   pub ok : ok_term (bits x.width) (leaf_term l number) ≡ true
   pub pushed : Pushed x x' (leaf_node l number)
-  pub last : root ≡ x.len
+  pub last : root ≡ array_vec_len x.nodes
 
 abbrev pub NoLeaf : List ℕ → ℕ → Leaf → Width → Type 0
 NoLeaf s p l v = (n : ℕ) (r : List (List ℕ)) → ok_term (bits v) (leaf_term l n) ≡ true → rest s p ≢ decimal n ∷ r
@@ -59,10 +56,10 @@ pub record IsTermRead (s : List ℕ) (p left : ℕ) (x x' : RuleNodes) (root q l
   pub counted : ops term + left' ≡ left
   pub longer : p < q
   pub within : q ≤ length s
-  pub rooted : root < x'.len
-  pub stands : Stands x'.nodes root term
+  pub rooted : root < array_vec_len x'.nodes
+  pub stands : Stands x'.nodes.items root term
   pub kept : Kept x x'
-  pub size : x'.len ≤ x.len + (3 * ops term + 1)
+  pub size : array_vec_len x'.nodes ≤ array_vec_len x.nodes + (3 * ops term + 1)
 
 abbrev pub NoTerm : List ℕ → ℕ → ℕ → Width → Type 0
 NoTerm s p left v = (e : Term) (r : List (List ℕ)) → ok_term (bits v) e ≡ true → ops e ≤ left → rest s p ≢ write_term e ++ r
@@ -76,11 +73,10 @@ pub record IsTermsRead (s : List ℕ) (p n left : ℕ) (x x' : RuleNodes) (roots
   pub counted : ops_all terms + left' ≡ left
   pub longer : p ≤ q
   pub within : q ≤ length s
-  pub places : length roots ≡ 6
-  pub inside : (k : ℕ) → k < 6 → slice_index roots k < 102
-  pub rooted : Rooted x'.nodes x'.len roots 0 terms
+  pub inside : EachIndex roots (λ k. slice_index roots k < 102)
+  pub rooted : Rooted x'.nodes.items roots terms
   pub kept : Kept x x'
-  pub size : x'.len ≤ x.len + (3 * ops_all terms + n)
+  pub size : array_vec_len x'.nodes ≤ array_vec_len x.nodes + (3 * ops_all terms + n)
 
 abbrev pub NoTerms : List ℕ → ℕ → ℕ → ℕ → Width → Type 0
 NoTerms s p n left v = (es : List Term) (r : List (List ℕ)) → length es ≡ n → ok_terms (bits v) es ≡ true → ops_all es ≤ left → rest s p ≢ write_terms es ++ r

@@ -18,7 +18,7 @@ struct Header {
 }
 
 // A rule that was read, and the place after it.
-#[derive(Clone, Copy)]
+#[derive(Drop)]
 pub struct RuleRead {
     pub rule: RuleNodes,
     pub end: usize,
@@ -63,7 +63,7 @@ pub fn read_rule(text: &[u8], at: usize) -> Result<RuleRead, Fault>
     ensures { MatchResult result (λ x. IsRuleRead text.now at x.rule x.end) (λ _. NoRule text.now at) }
 {
     let header = read_header(text, at)?;
-    let mut rule = RuleNodes::new(header.width, header.needed);
+    let mut rule = RuleNodes::new(header.width);
     let terms = read_terms(text, header.end, header.needed + 2, 32, &mut rule)?;
     rule.set_roots(terms.roots);
     Ok(RuleRead {

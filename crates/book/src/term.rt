@@ -4,6 +4,7 @@
 // as a term has operations one inside the other, and a rule has at most 32 operations in all: more are
 // refused before they are read.
 ghost use Rattle.std.specs.Prelude.{◌≡◌, ℕ, ◌+◌, ◌*◌, ◌^◌, ◌<◌, ◌≤◌, true, length, MatchResult, nat_le};
+ghost use Rattle.arrayvec.specs.ArrayVec.{array_vec_len};
 ghost use Rattle.words.specs.Words.{bits};
 ghost use Rattle.terms.specs.Limits.{ok_term};
 ghost use Rattle.book.specs.Tokens.{arity, leaf_term, leaf_node, operation_node};
@@ -12,6 +13,7 @@ ghost use Rattle.book.specs.Reading.{IsNumberRead, NoNumber, IsLeafRead, NoLeaf,
 use crate::fault::{Fault, Reason};
 use crate::scan::next_word;
 use crate::token::{Leaf, Operation, Token};
+use arrayvec::ArrayVec;
 use terms::{Node, RuleNodes};
 use words::Width;
 
@@ -32,9 +34,9 @@ pub(crate) struct TermRead {
 }
 
 // The same of several terms.
-#[derive(Clone, Copy)]
+#[derive(Drop)]
 pub(crate) struct TermsRead {
-    pub(crate) roots: [usize; 6],
+    pub(crate) roots: ArrayVec<usize, 6>,
     pub(crate) end: usize,
     left: usize,
 }
@@ -90,7 +92,8 @@ fn part_count(op: Operation) -> usize
     }
 }
 
-fn operation_node(op: Operation, parts: &[usize; 6]) -> Node
+fn operation_node(op: Operation, parts: &[usize]) -> Node
+    requires { arity op ≤ length parts.now }
     ensures { result ≡ operation_node op parts.now }
 {
     match op {
@@ -108,7 +111,7 @@ fn read_leaf(
     left: usize,
     rule: &mut RuleNodes,
 ) -> Result<TermRead, Fault>
-    requires { (at ≤ length text.now) × (rule.old.len < 102) }
+    requires { (at ≤ length text.now) × (array_vec_len rule.old.nodes < 102) }
     ensures { MatchResult result (λ t. IsLeafRead text.now at leaf rule.old rule.new t.root t.end × (t.left ≡ left)) (λ _. NoLeaf text.now at leaf rule.old.width) }
 {
     let number = read_number(text, at)?;
@@ -129,7 +132,7 @@ fn read_leaf(
 // Reads a term of at most `left` operations.
 #[cycle(read_term_read_terms)]
 fn read_term(text: &[u8], at: usize, left: usize, rule: &mut RuleNodes) -> Result<TermRead, Fault>
-    requires { (at ≤ length text.now) × (rule.old.len + (3 * left + 1) ≤ 102) }
+    requires { (at ≤ length text.now) × (array_vec_len rule.old.nodes + (3 * left + 1) ≤ 102) }
     ensures { MatchResult result (λ t. IsTermRead text.now at left rule.old rule.new t.root t.end t.left) (λ _. NoTerm text.now at left rule.old.width) }
 {
     let word = next_word(text, at);
@@ -143,7 +146,7 @@ fn read_term(text: &[u8], at: usize, left: usize, rule: &mut RuleNodes) -> Resul
                 });
             }
             let parts = read_terms(text, word.end, part_count(op), left - 1, rule)?;
-            let root = rule.push(operation_node(op, &parts.roots));
+            let root = rule.push(operation_node(op, parts.roots.as_slice()));
             Ok(TermRead {
                 root,
                 end: parts.end,
@@ -166,15 +169,15 @@ pub(crate) fn read_terms(
     left: usize,
     rule: &mut RuleNodes,
 ) -> Result<TermsRead, Fault>
-    requires { (at ≤ length text.now) × ((count ≤ 6) × (rule.old.len + (3 * left + count) ≤ 102)) }
-    ensures { MatchResult result (λ t. IsTermsRead text.now at count left rule.old rule.new t.roots t.end t.left) (λ _. NoTerms text.now at count left rule.old.width) }
+    requires { (at ≤ length text.now) × ((count ≤ 6) × (array_vec_len rule.old.nodes + (3 * left + count) ≤ 102)) }
+    ensures { MatchResult result (λ t. IsTermsRead text.now at count left rule.old rule.new t.roots.items t.end t.left) (λ _. NoTerms text.now at count left rule.old.width) }
 {
-    let mut roots = [0usize; 6];
+    let mut roots = ArrayVec::new();
     let mut end = at;
     let mut spare = left;
     for i in 0..count {
         let term = read_term(text, end, spare, rule)?;
-        roots[i] = term.root;
+        roots.push(term.root);
         end = term.end;
         spare = term.left;
     }

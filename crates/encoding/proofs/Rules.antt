@@ -5,7 +5,7 @@ use Rattle.terms.specs.declared.rule.RuleNodes.{RuleNodes}
 use Rattle.terms.specs.Limits.{ok_rule}
 use Rattle.terms.specs.Represents.{Represents}
 use Rattle.terms.specs.Terms.{Term, Rule, any, con, lit, unary, binary, ite, terms, ops, ops_all}
-use Rattle.terms.proofs.Roots.{Root, term_root}
+use Rattle.terms.proofs.Roots.{Root, rooted_count, root_count, term_root}
 use Rattle.terms.proofs.Weights.{few_needs, few_operations}
 use Rattle.encoding.specs.declared.entry.Entry.{Entry}
 use Rattle.encoding.specs.Table.{numbered_all, entries_in, entries_all, Numbers}
@@ -38,16 +38,16 @@ pub record NumberedSoFar (x : RuleNodes) (k : ℕ) (es : List Entry) (n : ℕ) (
   pub room : (r : Rule) → Represents x r → ok_rule r ≡ true → n + entries_all (drop k (terms r)) ≤ 134
   pub size : length places ≡ 6
 
-length_terms : (x : RuleNodes) (r : Rule) → Represents x r → length (terms r) ≡ x.needed + 2
-length_terms x r rep = length-append r.needs (r.from ∷ r.to ∷ []) ∙ omega (arith, rep.needed)
+length_terms : (x : RuleNodes) (r : Rule) → Represents x r → length (terms r) ≡ length x.roots.items
+length_terms x r rep = sym (rooted_count x.nodes.items x.roots.items (terms r) rep.rooted)
 
 pub numbered_none : (x : RuleNodes) (es : List Entry) (places : List ℕ) → length places ≡ 6 → NumberedSoFar x 0 es 0 places
 numbered_none x es places six = record { size = six; rest = λ r rep. refl; room = λ r rep ok. omega (arith, rule_entries r ok) }
 
-module _ (x : RuleNodes) (k : ℕ) (lt : k < x.needed + 2) where
+module _ (x : RuleNodes) (k : ℕ) (lt : k < length x.roots.items) where
   -- the term at root k
-  pub root_at : (r : Rule) → Represents x r → Root x k (get_or (terms r) k (any 0))
-  root_at r rep = term_root x r k rep (omega (arith, rep.needed))
+  pub root_at : (r : Rule) → Represents x r → Root x (get_or x.roots.items k 0) (get_or (terms r) k (any 0))
+  root_at r rep = term_root x r k rep (omega (arith, root_count x r rep))
 
   cut : (r : Rule) → Represents x r → drop k (terms r) ≡ get_or (terms r) k (any 0) ∷ drop (k + 1) (terms r)
   cut r rep = drop_more (terms r) k (any 0) (omega (arith, length_terms x r rep))
@@ -55,7 +55,7 @@ module _ (x : RuleNodes) (k : ℕ) (lt : k < x.needed + 2) where
   pub root_room : (es : List Entry) (n : ℕ) (places : List ℕ) (r : Rule) → Represents x r → ok_rule r ≡ true → NumberedSoFar x k es n places → n + entries_in (get_or (terms r) k (any 0)) ≤ 134
   root_room es n places r rep ok so = omega (arith, so.room r rep ok, ap entries_all (cut r rep))
 
-  pub numbered_more : (es es' : List Entry) (n n' p : ℕ) (places : List ℕ) → k < 6 → NumberedSoFar x k es n places → Numbers x.nodes (get_or x.roots k 0) (take n es) (take n' es') n n' p → NumberedSoFar x (k + 1) es' n' (set places k p)
+  pub numbered_more : (es es' : List Entry) (n n' p : ℕ) (places : List ℕ) → k < 6 → NumberedSoFar x k es n places → Numbers x.nodes.items (get_or x.roots.items k 0) (take n es) (take n' es') n n' p → NumberedSoFar x (k + 1) es' n' (set places k p)
   numbered_more es es' n n' p places few so now = record {
     size = length-set places k p ∙ so.size;
     rest = λ r rep.
@@ -69,8 +69,8 @@ module _ (x : RuleNodes) (k : ℕ) (lt : k < x.needed + 2) where
   }
 
 -- all terms
-pub numbered_all_lem : (x : RuleNodes) (es : List Entry) (n : ℕ) (places : List ℕ) (r : Rule) → Represents x r → NumberedSoFar x (x.needed + 2) es n places → numbered_all (terms r) [] ≡ (take n es, take (x.needed + 2) places)
+pub numbered_all_lem : (x : RuleNodes) (es : List Entry) (n : ℕ) (places : List ℕ) (r : Rule) → Represents x r → NumberedSoFar x (length x.roots.items) es n places → numbered_all (terms r) [] ≡ (take n es, take (length x.roots.items) places)
 numbered_all_lem x es n places r rep so =
     so.rest r rep
-    ∙ (ap (λ ts. ((numbered_all ts (take n es)).0, take (x.needed + 2) places ++ (numbered_all ts (take n es)).1)) (drop_all (x.needed + 2) (terms r) (omega (arith, length_terms x r rep)))
-    ∙ ap (λ ps. (take n es, ps)) (append-nil (take (x.needed + 2) places)))
+    ∙ (ap (λ ts. ((numbered_all ts (take n es)).0, take (length x.roots.items) places ++ (numbered_all ts (take n es)).1)) (drop_all (length x.roots.items) (terms r) (omega (arith, length_terms x r rep)))
+    ∙ ap (λ ps. (take n es, ps)) (append-nil (take (length x.roots.items) places)))

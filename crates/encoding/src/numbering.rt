@@ -1,5 +1,5 @@
 // The numbering of terms: each term is an entry of the table, after the entries of its parts.
-ghost use Rattle.std.specs.Prelude.{◌≡◌, ℕ, ◌+◌, ◌<◌, ◌≤◌, min, max, true, [], take, slice_index_or};
+ghost use Rattle.std.specs.Prelude.{◌≡◌, ℕ, ◌+◌, ◌<◌, ◌≤◌, min, max, true, [], length, take, slice_index_or};
 ghost use Rattle.encoding.specs.declared.entry.Entry.TheVariants.{Name};
 ghost use Rattle.terms.specs.Nodes.{Stands};
 ghost use Rattle.terms.specs.Limits.{ok_rule};
@@ -122,11 +122,11 @@ impl Table {
 
 // The place of the term at node i, which is numbered after its parts.
 pub fn number_term(rule: &RuleNodes, i: usize, table: &mut Table) -> usize
-    requires there { i < rule.now.len }
-    requires room { (e : Term) × Stands rule.now.nodes i e × (table.old.len + entries_in e ≤ 134) }
-    ensures { Numbers rule.now.nodes i (take table.old.len table.old.entries) (take table.new.len table.new.entries) table.old.len table.new.len result }
+    requires there { i < length rule.now.nodes.items }
+    requires room { (e : Term) × Stands rule.now.nodes.items i e × (table.old.len + entries_in e ≤ 134) }
+    ensures { Numbers rule.now.nodes.items i (take table.old.len table.old.entries) (take table.new.len table.new.entries) table.old.len table.new.len result }
 {
-    let node = rule.nodes[i];
+    let node = rule.node(i);
     match node {
         Node::Any(k) => table.place(Entry::Name(k)),
         Node::Con(k) => table.place(Entry::Name(16 + k)),
@@ -160,12 +160,13 @@ pub struct Numbering {
 pub fn number_rule(rule: &RuleNodes) -> Numbering
     requires { (r : Rule) × Represents rule.now r × (ok_rule r ≡ true) }
     ensures table { (r : Rule) → Represents rule.now r → take result.table.len result.table.entries ≡ (numbered_all (terms r) []).0 }
-    ensures places { (r : Rule) → Represents rule.now r → take (rule.now.needed + 2) result.places ≡ (numbered_all (terms r) []).1 }
+    ensures places { (r : Rule) → Represents rule.now r → take (length rule.now.roots.items) result.places ≡ (numbered_all (terms r) []).1 }
 {
     let mut table = Table::new();
     let mut places = [0; 6];
-    for k in 0..rule.needed + 2 {
-        places[k] = number_term(rule, rule.roots[k], &mut table);
+    let roots = rule.roots.as_slice();
+    for (k, root) in roots.iter().enumerate() {
+        places[k] = number_term(rule, *root, &mut table);
     }
     Numbering { table, places }
 }

@@ -1,11 +1,11 @@
 -- Marking the names of nodes, and that terms have the same values where the names that are marked do.
-use Rattle.std.proofs.Common.{◌≡◌, ℕ, suc, ◌+◌, ◌<◌, Bool, true, false, List, [], ◌∷◌, ◌++◌, length, get_or, set, sym, refl, ap, ◌∙◌, inl, inr, arith}
+use Rattle.std.proofs.Common.{◌≡◌, ℕ, ◌+◌, ◌<◌, Bool, true, false, List, [], ◌∷◌, ◌++◌, length, get_or, set, sym, refl, ap, ◌∙◌, inl, inr, arith}
 use Rattle.std.proofs.lemmas.List.{get_or-set_same, get_or-set_other, length-set}
 use Rattle.std.proofs.lemmas.Bool.{cases_eq, ltb-true, true≢false, false≢true}
 use Rattle.words.specs.Words.{do1}
 use Rattle.terms.specs.declared.node.Node.{Node}
 use Rattle.terms.specs.declared.node.Node.TheVariants.{Any, Con, Lit, Unary, Binary, Ite}
-use Rattle.terms.specs.Nodes.{Stands, Rooted, sound}
+use Rattle.terms.specs.Nodes.{Stands, Rooted, AllSound, sound}
 use Rattle.terms.specs.Terms.{Term, any, con, lit, unary, binary, ite, eval, Met}
 use Rattle.small_rules.specs.Odometer.{Used}
 use Rattle.small_rules.specs.Marks.{Marked, named, mark_any, mark_con}
@@ -31,11 +31,12 @@ eval_same w ns n anys cons a b c d m p q i (ite t x y) lt s =
     rw (h, f, g) refl
 
 -- the needed terms, which are rooted before others
-pub met_same : (w : ℕ) (ns : List Node) (n : ℕ) (roots : List ℕ) (anys cons : List Bool) (a b c d : ℕ → ℕ) → Marked ns n anys cons → Same anys a b → Same cons c d → (k : ℕ) (es fs : List Term) → Rooted ns n roots k (es ++ fs) → Met w b d es → Met w a c es
-met_same w ns n roots anys cons a b c d m p q k [] fs r met = tt
-met_same w ns n roots anys cons a b c d m p q k (e ∷ es) fs r met = (
-  λ z. met.0 (sym (eval_same w ns n anys cons a b c d m p q (get_or roots k 0) e r.0 r.1) ∙ z),
-  met_same w ns n roots anys cons a b c d m p q (suc k) es fs r.2 met.1,
+pub met_same : (w : ℕ) (ns : List Node) (anys cons : List Bool) (a b c d : ℕ → ℕ) → Marked ns (length ns) anys cons → Same anys a b → Same cons c d → (roots : List ℕ) (es fs : List Term) → Rooted ns roots (es ++ fs) → Met w b d es → Met w a c es
+met_same w ns anys cons a b c d m p q roots [] fs r met = tt
+met_same w ns anys cons a b c d m p q [] (e ∷ es) fs r met = absurd r
+met_same w ns anys cons a b c d m p q (k ∷ ks) (e ∷ es) fs r met = (
+  λ z. met.0 (sym (eval_same w ns (length ns) anys cons a b c d m p q k e r.0.0 r.0.1) ∙ z),
+  met_same w ns anys cons a b c d m p q ks es fs r.1 met.1,
 )
 
 -- the name in a node, and whether it is an any, or a con
@@ -72,7 +73,7 @@ used_more us k j room u =
     ]
 
 -- the names in a node that may stand in a rule
-pub sound_named : (w i : ℕ) (x : Node) → sound w i x ≡ true → named x ≡ true
+sound_named : (w i : ℕ) (x : Node) → sound w i x ≡ true → named x ≡ true
 sound_named w i (Any k) h = h
 sound_named w i (Con k) h = h
 sound_named w i (Lit n) h = refl
@@ -98,7 +99,7 @@ mark_none ns n anys cons x is no-any no-con m = record {
 }
 
 -- the names of the nodes before one, with that of the node itself
-mark_node : (ns : List Node) (n : ℕ) (anys cons : List Bool) (x : Node) → get_or ns n (Any 0) ≡ x → named x ≡ true → Marked ns n anys cons → Marked ns (n + 1) (mark_any x anys) (mark_con x cons)
+pub mark_node : (ns : List Node) (n : ℕ) (anys cons : List Bool) (x : Node) → get_or ns n (Any 0) ≡ x → named x ≡ true → Marked ns n anys cons → Marked ns (n + 1) (mark_any x anys) (mark_con x cons)
 mark_node ns n anys cons (Any k) is ok m =
     let small = ltb-true k 16 ok in
     let long = m.any_long in
@@ -148,5 +149,6 @@ mark_node ns n anys cons (Unary o j) is ok m = mark_none ns n anys cons (Unary o
 mark_node ns n anys cons (Binary o j k) is ok m = mark_none ns n anys cons (Binary o j k) is false≢true false≢true m
 mark_node ns n anys cons (Ite h j k) is ok m = mark_none ns n anys cons (Ite h j k) is false≢true false≢true m
 
-pub mark_more : (w : ℕ) (ns : List Node) (n : ℕ) (anys cons : List Bool) → sound w n (get_or ns n (Any 0)) ≡ true → Marked ns n anys cons → Marked ns (n + 1) (mark_any (get_or ns n (Any 0)) anys) (mark_con (get_or ns n (Any 0)) cons)
-mark_more w ns n anys cons made m = mark_node ns n anys cons (get_or ns n (Any 0)) refl (sound_named w n (get_or ns n (Any 0)) made) m
+-- so has a node of a rule
+pub named_at : (w : ℕ) (ns ms : List Node) (i : ℕ) → ms ≡ ns → i < length ms → AllSound w ns → named (get_or ms i (Any 0)) ≡ true
+named_at w ns ms i e lt all = rw e (sound_named w i (get_or ns i (Any 0)) (all i (omega (arith, ap length e))))

@@ -6,27 +6,27 @@ use Rattle.small_rules.specs.Odometer.{Used, Moved}
 
 -- the used places below k went from the largest word m to 0, and the others are as they were
 pub record Turning (us : List Bool) (m : ℕ) (xs ys : List ℕ) (k : ℕ) : Type 0 where
-  pub words : (j : ℕ) → j < 16 → get_or ys j 0 ≤ m
+  pub words : (j : ℕ) → get_or ys j 0 ≤ m
   pub low : (j : ℕ) → j < k → Used us j → (get_or xs j 0 ≡ m) × (get_or ys j 0 ≡ 0)
   pub high : (j : ℕ) → k ≤ j → get_or ys j 0 ≡ get_or xs j 0
 
 -- a word in place of another
-pub words_set : (m n : ℕ) (ys : List ℕ) (k y : ℕ) → k < length ys → ((j : ℕ) → j < n → get_or ys j 0 ≤ m) → y ≤ m → (j : ℕ) → j < n → get_or (set ys k y) j 0 ≤ m
-words_set m n ys k y room all h j lt =
+pub words_set : (m : ℕ) (ys : List ℕ) (k y : ℕ) → k < length ys → ((j : ℕ) → get_or ys j 0 ≤ m) → y ≤ m → (j : ℕ) → get_or (set ys k y) j 0 ≤ m
+words_set m ys k y room all h j =
     elim (cases_eq j k) [
       | inl e ↦ rw (e, get_or-set_same ys k y 0 room) h
-      | inr ne ↦ rw (get_or-set_other ys k j y 0 ne) (all j lt)
+      | inr ne ↦ rw (get_or-set_other ys k j y 0 ne) (all j)
     ]
 
 -- a used place that has the largest word
-pub turning_zero : (us : List Bool) (m : ℕ) (xs ys : List ℕ) (k : ℕ) → k < length ys → m ≤ get_or ys k 0 → k < 16 → Turning us m xs ys k → Turning us m xs (set ys k 0) (k + 1)
-turning_zero us m xs ys k room full lt t = record {
-  words = words_set m 16 ys k 0 room t.words (omega arith);
+pub turning_zero : (us : List Bool) (m : ℕ) (xs ys : List ℕ) (k : ℕ) → k < length ys → m ≤ get_or ys k 0 → Turning us m xs ys k → Turning us m xs (set ys k 0) (k + 1)
+turning_zero us m xs ys k room full t = record {
+  words = words_set m ys k 0 room t.words (omega arith);
   low = λ j h u.
       elim (cases_eq j k) [
         | inl e ↦
             let same = t.high k (omega arith) in
-            let most = t.words k lt in
+            let most = t.words k in
             let top : get_or xs k 0 ≡ m = omega arith in
             rw e (top, get_or-set_same ys k 0 0 room)
         | inr ne ↦

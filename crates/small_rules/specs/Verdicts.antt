@@ -7,5 +7,5 @@ use Rattle.small_rules.specs.declared.trial.Verdict.TheVariants.{Holds, Fails, U
 -- the rule holds, or it fails at the values that the verdict has
 abbrev pub Right : Verdict → Rule → Type 0
 Right Holds r = RuleHolds r
-Right (Fails any con) r = RuleFails r (λ k. slice_index any k) (λ k. slice_index con k)
+Right (Fails a) r = RuleFails r (λ k. slice_index a.any k) (λ k. slice_index a.con k)
 Right Untried r = Unit {0}

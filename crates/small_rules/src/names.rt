@@ -1,5 +1,5 @@
 // The names that stand in a rule.
-ghost use Rattle.std.specs.Prelude.{◌≡◌, true};
+ghost use Rattle.std.specs.Prelude.{◌≡◌, true, length};
 ghost use Rattle.small_rules.specs.Marks.{Marked, named, mark_any, mark_con};
 
 use terms::{Node, RuleNodes};
@@ -28,23 +28,20 @@ impl Names {
                 con[k] = true;
                 Names { any, con }
             }
-            Node::Lit(_) => self,
-            Node::Unary(_, _) => self,
-            Node::Binary(_, _, _) => self,
-            Node::Ite(_, _, _) => self,
+            Node::Lit(_) | Node::Unary(_, _) | Node::Binary(_, _, _) | Node::Ite(_, _, _) => self,
         }
     }
 
     // The names in the nodes of a rule.
     pub(crate) fn of(rule: &RuleNodes) -> Names
-        ensures { Marked rule.now.nodes rule.now.len result.any result.con }
+        ensures { Marked rule.now.nodes.items (length rule.now.nodes.items) result.any result.con }
     {
         let mut names = Names {
             any: [false; 16],
             con: [false; 16],
         };
-        for i in 0..rule.len {
-            names = names.with(rule.nodes[i]);
+        for node in rule.nodes.as_slice() {
+            names = names.with(*node);
         }
         names
     }

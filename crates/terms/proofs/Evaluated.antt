@@ -1,8 +1,7 @@
 -- The values of nodes are those of the terms that they stand for.
-use Rattle.std.proofs.Common.{◌≡◌, ℕ, zero, suc, ◌+◌, ◌^◌, ◌<◌, not, eqb, List, [], ◌∷◌, length, get_or, set, Decides, sym, ap, ◌∙◌, subst, inl, inr, arith}
-use Rattle.std.proofs.lemmas.Nat.{pow_pos}
-use Rattle.std.proofs.lemmas.List.{get_or-set_same, get_or-set_other, get_or_past}
-use Rattle.std.proofs.lemmas.Bool.{cases_eq, cases_lt, eqb-false, ne_eqb, not-true, not_from_false}
+use Rattle.std.proofs.Common.{◌≡◌, ℕ, zero, suc, ◌+◌, ◌-◌, ◌^◌, ◌<◌, ◌≤◌, ◌≢◌, not, eqb, List, [], ◌∷◌, length, get_or, set, take, Decides, sym, ap, ◌∙◌, subst, inl, inr, arith}
+use Rattle.std.proofs.lemmas.List.{get_or-set_same, get_or-set_other, get_or-take, length-take-le}
+use Rattle.std.proofs.lemmas.Bool.{cases_eq, eqb-false, ne_eqb, not-true, not_from_false}
 use Rattle.words.specs.Words.{bits, do1}
 use Rattle.terms.specs.declared.node.Node.{Node}
 use Rattle.terms.specs.declared.node.Node.TheVariants.{Any}
@@ -11,7 +10,7 @@ use Rattle.terms.specs.Nodes.{Stands}
 use Rattle.terms.specs.Represents.{Represents}
 use Rattle.terms.specs.Terms.{Term, any, con, lit, unary, binary, ite, Rule, eval, Met, Within, Fails}
 use Rattle.terms.specs.Values.{AreWords, node_value}
-use Rattle.terms.proofs.Roots.{Root, need_root, from_root, to_root}
+use Rattle.terms.proofs.Roots.{Root, need_count, need_root, from_root, to_root}
 
 -- the value of a node is that of its term, where those of the nodes before it are
 pub node_eval : (w : ℕ) (a c vs : List ℕ) (ns : List Node) (i : ℕ) (e : Term) → ((j : ℕ) (f : Term) → j < i → Stands ns j f → get_or vs j 0 ≡ eval w (λ k. get_or a k 0) (λ k. get_or c k 0) f) → Stands ns i e → node_value w a c vs (get_or ns i (Any 0)) ≡ eval w (λ k. get_or a k 0) (λ k. get_or c k 0) e
@@ -37,12 +36,16 @@ words_more w xs n x room all h i lt =
       | inr ne ↦ rw (get_or-set_other xs n i x 0 ne) (all i (omega arith))
     ]
 
+-- the words before one of them
+pub words_before : (w : ℕ) (xs : List ℕ) (n : ℕ) → n ≤ length xs → AreWords w n xs → AreWords w (length (take n xs)) (take n xs)
+words_before w xs n le all i lt = let below : i < n = omega (arith, length-take-le n xs le) in rw get_or-take (all i below)
+
 -- what the nodes of a rule have as values
 abbrev pub Evaluated : RuleNodes → List ℕ → List ℕ → List ℕ → Type 0
-Evaluated x a c vs = (i : ℕ) (e : Term) → i < x.len → Stands x.nodes i e → get_or vs i 0 ≡ eval (bits x.width) (λ k. get_or a k 0) (λ k. get_or c k 0) e
+Evaluated x a c vs = (i : ℕ) (e : Term) → i < length x.nodes.items → Stands x.nodes.items i e → get_or vs i 0 ≡ eval (bits x.width) (λ k. get_or a k 0) (λ k. get_or c k 0) e
 
-root_value : (x : RuleNodes) (r : Rule) (a c vs : List ℕ) (k : ℕ) (e : Term) → Evaluated x a c vs → Represents x r → Root x k e → get_or vs (get_or x.roots k 0) 0 ≡ eval (bits r.width) (λ k. get_or a k 0) (λ k. get_or c k 0) e
-root_value x r a c vs k e all rep p = all (get_or x.roots k 0) e p.0 p.1 ∙ ap (λ w. eval (bits w) (λ k. get_or a k 0) (λ k. get_or c k 0) e) rep.width
+root_value : (x : RuleNodes) (r : Rule) (a c vs : List ℕ) (p : ℕ) (e : Term) → Evaluated x a c vs → Represents x r → Root x p e → get_or vs p 0 ≡ eval (bits r.width) (λ k. get_or a k 0) (λ k. get_or c k 0) e
+root_value x r a c vs p e all rep root = all p e root.0 root.1 ∙ ap (λ w. eval (bits w) (λ k. get_or a k 0) (λ k. get_or c k 0) e) rep.width
 
 met_from : (w : ℕ) (a c : ℕ → ℕ) (es : List Term) → ((i : ℕ) → i < length es → eval w a c (get_or es i (any 0)) ≡ 0 → ⊥) → Met w a c es
 met_from w a c [] each = tt
@@ -53,28 +56,30 @@ met_at w a c [] i h m = let z : ⊥ = omega arith in absurd z
 met_at w a c (e ∷ es) zero h m = m.0
 met_at w a c (e ∷ es) (suc i) h m = met_at w a c es i (omega arith) m.1
 
--- a name that is not in the list has the value 0
-words_within : (x : RuleNodes) (r : Rule) (xs : List ℕ) → length xs ≡ 16 → Represents x r → AreWords (bits x.width) 16 xs → Within (bits r.width) (λ k. get_or xs k 0)
-words_within x r xs n rep all i =
-    subst (λ w. get_or xs i 0 < 2 ^ bits w) rep.width
-    (elim (cases_lt i 16) [ inl lt ↦ all i lt | inr ge ↦ rw (get_or_past xs i 0 (omega arith)) (pow_pos (bits x.width)) ])
+module _ (x : RuleNodes) (r : Rule) (ks a c vs : List ℕ) (all : Evaluated x a c vs) (rep : Represents x r) (roots : ks ≡ x.roots.items) where
+  -- that no needed term is 0, as the roots tell it
+  abbrev pub NeedsMet : Type 0
+  NeedsMet = (k : ℕ) → k < length (take (length ks - 2) ks) → get_or vs (get_or (take (length ks - 2) ks) k 0) 0 ≢ 0
 
--- where a needed term is 0, the rule does not fail
-pub not_needed : (x : RuleNodes) (r : Rule) (a c vs : List ℕ) (k : ℕ) → Evaluated x a c vs → Represents x r → k < x.needed → get_or vs (get_or x.roots k 0) 0 ≡ 0 → Fails r (λ k. get_or a k 0) (λ k. get_or c k 0) → ⊥
-not_needed x r a c vs k all rep h z f =
-    met_at (bits r.width) (λ k. get_or a k 0) (λ k. get_or c k 0) r.needs k (omega (arith, rep.needed)) f.met
-    (sym (root_value x r a c vs k (get_or r.needs k (any 0)) all rep (need_root x r k rep h)) ∙ z)
+  need_value : (k : ℕ) → k < length r.needs → get_or vs (get_or (take (length ks - 2) ks) k 0) 0 ≡ eval (bits r.width) (λ k. get_or a k 0) (λ k. get_or c k 0) (get_or r.needs k (any 0))
+  need_value k h = root_value x r a c vs _ _ all rep (need_root x r ks rep roots k h)
 
--- where none is 0, it fails exactly if its sides differ
-pub differ_fails : (x : RuleNodes) (r : Rule) (a c vs : List ℕ) → length a ≡ 16 → length c ≡ 16 → AreWords (bits x.width) 16 a → AreWords (bits x.width) 16 c → Evaluated x a c vs → Represents x r → ((k : ℕ) → k < x.needed → get_or vs (get_or x.roots k 0) 0 ≡ 0 → ⊥) → Decides (not (eqb (get_or vs (get_or x.roots x.needed 0) 0) (get_or vs (get_or x.roots (x.needed + 1) 0) 0))) (Fails r (λ k. get_or a k 0) (λ k. get_or c k 0))
-differ_fails x r a c vs na nc wa wc all rep met =
-    let from = root_value x r a c vs x.needed r.from all rep (from_root x r rep) in
-    let to = root_value x r a c vs (x.needed + 1) r.to all rep (to_root x r rep) in (
-      λ t. record {
-        a_in = words_within x r a na rep wa;
-        c_in = words_within x r c nc rep wc;
-        met = met_from (bits r.width) (λ k. get_or a k 0) (λ k. get_or c k 0) r.needs (λ i h z. met i (omega (arith, rep.needed)) (root_value x r a c vs i (get_or r.needs i (any 0)) all rep (need_root x r i rep (omega (arith, rep.needed))) ∙ z));
-        differ = λ e. eqb-false _ _ (not-true _ t) (from ∙ e ∙ sym to);
-      },
-      λ f. not_from_false _ (ne_eqb _ _ (λ e. f.differ (sym from ∙ e ∙ to))),
-    )
+  -- none is 0 where the rule fails
+  pub fails_met : Fails r (λ k. get_or a k 0) (λ k. get_or c k 0) → NeedsMet
+  fails_met f k h z =
+      let below : k < length r.needs = omega (arith, need_count x r ks rep roots) in
+      met_at (bits r.width) (λ k. get_or a k 0) (λ k. get_or c k 0) r.needs k below f.met (sym (need_value k below) ∙ z)
+
+  -- where none is 0, it fails exactly if its sides differ
+  pub differ_fails : Within (bits x.width) (λ k. get_or a k 0) → Within (bits x.width) (λ k. get_or c k 0) → NeedsMet → Decides (not (eqb (get_or vs (get_or ks (length ks - 2) 0) 0) (get_or vs (get_or ks (length ks - 1) 0) 0))) (Fails r (λ k. get_or a k 0) (λ k. get_or c k 0))
+  differ_fails wa wc met =
+      let from = root_value x r a c vs _ r.from all rep (from_root x r ks rep roots) in
+      let to = root_value x r a c vs _ r.to all rep (to_root x r ks rep roots) in (
+        λ t. record {
+          a_in = subst (λ w. Within (bits w) (λ k. get_or a k 0)) rep.width wa;
+          c_in = subst (λ w. Within (bits w) (λ k. get_or c k 0)) rep.width wc;
+          met = met_from (bits r.width) (λ k. get_or a k 0) (λ k. get_or c k 0) r.needs (λ i h z. met i (omega (arith, need_count x r ks rep roots)) (need_value i h ∙ z));
+          differ = λ e. eqb-false _ _ (not-true _ t) (from ∙ e ∙ sym to);
+        },
+        λ f. not_from_false _ (ne_eqb _ _ (λ e. f.differ (sym from ∙ e ∙ to))),
+      )

@@ -1,7 +1,7 @@
 -- The measures of nodes are those of the terms that they stand for.
-use Rattle.std.proofs.Common.{◌≡◌, ℕ, ◌+◌, ◌-◌, ◌*◌, ◌^◌, ◌<◌, ◌≤◌, List, ◌∷◌, length, get_or, drop, sym, refl, ap, ◌∙◌, ap₂, arith}
-use lib.Bits.{bit_or, or_zero_l}
-use Rattle.std.proofs.lemmas.List.{drop_more}
+use Rattle.std.proofs.Common.{◌≡◌, ℕ, ◌+◌, ◌*◌, ◌^◌, ◌<◌, List, [], ◌∷◌, ◌++◌, length, get_or, sym, refl, ap, ◌∙◌, ap₂, arith}
+use lib.Bits.{bit_or, or_zero_l, or_zero_r}
+use Rattle.std.proofs.lemmas.Nat.Bits.{same_from_bits, bit_at_or}
 use Rattle.words.specs.declared.Width.{Width}
 use Rattle.words.specs.declared.Width.TheVariants.{W8, W16, W32, W64}
 use Rattle.words.specs.Words.{bits}
@@ -9,11 +9,11 @@ use Rattle.terms.specs.declared.measure.Measure.{Measure}
 use Rattle.terms.specs.declared.node.Node.{Node}
 use Rattle.terms.specs.declared.node.Node.TheVariants.{Any}
 use Rattle.terms.specs.declared.rule.RuleNodes.{RuleNodes}
-use Rattle.terms.specs.Terms.{Term, Rule, any, con, lit, unary, binary, ite, ops, load, load2}
+use Rattle.terms.specs.Terms.{Term, Rule, any, con, lit, unary, binary, ite, ops, ops_all, load, load_all, load2}
 use Rattle.terms.specs.Nodes.{Stands}
 use Rattle.terms.specs.Represents.{Represents}
 use Rattle.terms.specs.Measures.{any_set, con_set, measured, measure_of, measure_all, union, nothing, leaf, operation, together, node_measure}
-use Rattle.terms.proofs.Roots.{need_root, from_root, to_root}
+use Rattle.terms.proofs.Roots.{Root}
 
 pub bits_small : (w : Width) → bits w < 65
 bits_small W8 = omega arith
@@ -36,16 +36,24 @@ measured_leaf w s t h = same_measure _ _ _ _ _ _ _ _ (omega arith) refl refl ref
 measure_two : (w : ℕ) (x y : Term) → together (measure_of w x) (measure_of w y) ≡ measured (load w x + load w y) (ops x + ops y) (bit_or (any_set x) (any_set y)) (bit_or (con_set x) (con_set y))
 measure_two w x y = measured_together _ _ (any_set x) (con_set x) _ _ (any_set y) (con_set y)
 
--- one more term in front
-pub measure_cons : (w : ℕ) (e : Term) (es : List Term) → together (measure_of w e) (measure_all w es) ≡ measure_all w (e ∷ es)
-measure_cons w e es = measured_together _ _ (any_set e) (con_set e) _ _ (union any_set es) (union con_set es)
+or_assoc : (a b c : ℕ) → bit_or (bit_or a b) c ≡ bit_or a (bit_or b c)
+or_assoc a b c = same_from_bits _ _ (λ i. omega (arith, bit_at_or (bit_or a b) c i, bit_at_or a b i, bit_at_or a (bit_or b c) i, bit_at_or b c i))
 
--- the needed terms from place k - 1 on, from those from place k on
-pub measure_drop : (w : ℕ) (es : List Term) (k : ℕ) (m n : Measure) → 0 < k → k ≤ length es → m ≡ measure_of w (get_or es (k - 1) (any 0)) → n ≡ measure_all w (drop k es) → together m n ≡ measure_all w (drop (k - 1) es)
-measure_drop w es k m n h le p q =
-    let back : k - 1 + 1 ≡ k = omega arith in
-    ap₂ together p q ∙ measure_cons w (get_or es (k - 1) (any 0)) (drop k es)
-    ∙ ap (measure_all w) (ap (λ i. get_or es (k - 1) (any 0) ∷ drop i es) (sym back) ∙ sym (drop_more es (k - 1) (any 0) (omega arith)))
+union_push : (f : Term → ℕ) (es : List Term) (e : Term) → union f (es ++ e ∷ []) ≡ bit_or (union f es) (f e)
+union_push f [] e = or_zero_r (f e)
+union_push f (x ∷ es) e = ap (bit_or (f x)) (union_push f es e) ∙ sym (or_assoc (f x) (union f es) (f e))
+
+load_push : (w : ℕ) (es : List Term) (e : Term) → load_all w (es ++ e ∷ []) ≡ load_all w es + load w e
+load_push w [] e = omega arith
+load_push w (x ∷ es) e = omega (arith, load_push w es e)
+
+ops_push : (es : List Term) (e : Term) → ops_all (es ++ e ∷ []) ≡ ops_all es + ops e
+ops_push [] e = omega arith
+ops_push (x ∷ es) e = omega (arith, ops_push es e)
+
+-- one more term
+pub measure_push : (w : ℕ) (es : List Term) (e : Term) → together (measure_all w es) (measure_of w e) ≡ measure_all w (es ++ e ∷ [])
+measure_push w es e = same_measure _ _ _ _ _ _ _ _ (omega (arith, load_push w es e)) (omega (arith, ops_push es e)) (sym (union_push any_set es e)) (sym (union_push con_set es e))
 
 -- the measure of a node is that of its term, where those of the nodes before it are
 pub node_measure_lem : (w : ℕ) (ns : List Node) (ms : List Measure) (i : ℕ) (e : Term) → w < 65 → ((j : ℕ) (f : Term) → j < i → Stands ns j f → get_or ms j nothing ≡ measure_of w f) → Stands ns i e → node_measure w ms (get_or ns i (Any 0)) ≡ measure_of w e
@@ -71,16 +79,7 @@ node_measure_lem w ns ms i (ite t x y) h all s =
 
 -- what the nodes of a rule have as measures
 abbrev pub Measured : RuleNodes → List Measure → Type 0
-Measured x ms = (i : ℕ) (e : Term) → i < x.len → Stands x.nodes i e → get_or ms i nothing ≡ measure_of (bits x.width) e
+Measured x ms = (i : ℕ) (e : Term) → i < length x.nodes.items → Stands x.nodes.items i e → get_or ms i nothing ≡ measure_of (bits x.width) e
 
-root_measure : (x : RuleNodes) (r : Rule) (ms : List Measure) (i : ℕ) (e : Term) → Measured x ms → Represents x r → (i < x.len) × Stands x.nodes i e → get_or ms i nothing ≡ measure_of (bits r.width) e
-root_measure x r ms i e all rep p = all i e p.0 p.1 ∙ ap (λ w. measure_of (bits w) e) rep.width
-
-pub need_measure : (x : RuleNodes) (r : Rule) (ms : List Measure) (k : ℕ) → Measured x ms → Represents x r → k < x.needed → get_or ms (get_or x.roots k 0) nothing ≡ measure_of (bits r.width) (get_or r.needs k (any 0))
-need_measure x r ms k all rep h = root_measure x r ms _ _ all rep (need_root x r k rep h)
-
-pub from_measure : (x : RuleNodes) (r : Rule) (ms : List Measure) → Measured x ms → Represents x r → get_or ms (get_or x.roots x.needed 0) nothing ≡ measure_of (bits r.width) r.from
-from_measure x r ms all rep = root_measure x r ms _ r.from all rep (from_root x r rep)
-
-pub to_measure : (x : RuleNodes) (r : Rule) (ms : List Measure) → Measured x ms → Represents x r → get_or ms (get_or x.roots (x.needed + 1) 0) nothing ≡ measure_of (bits r.width) r.to
-to_measure x r ms all rep = root_measure x r ms _ r.to all rep (to_root x r rep)
+pub root_measure : (x : RuleNodes) (r : Rule) (ms : List Measure) (p : ℕ) (e : Term) → Measured x ms → Represents x r → Root x p e → get_or ms p nothing ≡ measure_of (bits r.width) e
+root_measure x r ms p e all rep root = all p e root.0 root.1 ∙ ap (λ w. measure_of (bits w) e) rep.width

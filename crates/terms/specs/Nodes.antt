@@ -1,5 +1,6 @@
 -- Terms as nodes in an array: a node names its parts by their places, which come before its own.
-use Rattle.std.specs.Prelude.{◌≡◌, ℕ, suc, ◌^◌, ◌<◌, Bool, true, ◌&&◌, List, [], ◌∷◌, nat_lt, slice_index, slice_index_or}
+use Rattle.std.specs.Prelude.{◌≡◌, ℕ, ◌^◌, ◌<◌, Bool, true, ◌&&◌, List, length, nat_lt, slice_index_or}
+use Rattle.std.specs.List.{AllZip}
 use Rattle.terms.specs.declared.node.Node.{Node}
 use Rattle.terms.specs.declared.node.Node.TheVariants.{Any, Con, Lit, Unary, Binary, Ite}
 use Rattle.terms.specs.Terms.{Term, any, con, lit, unary, binary, ite}
@@ -13,8 +14,8 @@ sound w i (Unary o j) = nat_lt j i
 sound w i (Binary o j k) = nat_lt j i && nat_lt k i
 sound w i (Ite h j k) = nat_lt h i && (nat_lt j i && nat_lt k i)
 
-abbrev pub AllSound : ℕ → List Node → ℕ → Type 0
-AllSound w ns n = (i : ℕ) → i < n → sound w i (slice_index_or ns i (Any 0)) ≡ true
+abbrev pub AllSound : ℕ → List Node → Type 0
+AllSound w ns = (i : ℕ) → i < length ns → sound w i (slice_index_or ns i (Any 0)) ≡ true
 
 -- node i stands for a term; equal parts of terms may share a node
 abbrev pub Stands : List Node → ℕ → Term → Type 0
@@ -25,7 +26,6 @@ Stands ns i (unary o x) = (j : ℕ) × (slice_index_or ns i (Any 0) ≡ Unary o 
 Stands ns i (binary o x y) = (j : ℕ) × (k : ℕ) × (slice_index_or ns i (Any 0) ≡ Binary o j k) × (j < i) × (k < i) × Stands ns j x × Stands ns k y
 Stands ns i (ite t x y) = (h : ℕ) × (j : ℕ) × (k : ℕ) × (slice_index_or ns i (Any 0) ≡ Ite h j k) × (h < i) × (j < i) × (k < i) × Stands ns h t × Stands ns j x × Stands ns k y
 
--- the n first nodes have, at the roots from place k on, these terms
-abbrev pub Rooted : List Node → ℕ → List ℕ → ℕ → List Term → Type 0
-Rooted ns n roots k [] = Unit {0}
-Rooted ns n roots k (e ∷ es) = (slice_index roots k < n) × Stands ns (slice_index roots k) e × Rooted ns n roots (suc k) es
+-- the nodes at these roots stand for these terms, one for one
+abbrev pub Rooted : List Node → List ℕ → List Term → Type 0
+Rooted ns = AllZip (λ i e. (i < length ns) × Stands ns i e)

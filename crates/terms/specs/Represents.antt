@@ -1,10 +1,9 @@
 -- When a rule's nodes are those of a rule.
-use Rattle.std.specs.Prelude.{◌≡◌, length}
+use Rattle.std.specs.Prelude.{◌≡◌}
 use Rattle.terms.specs.declared.rule.RuleNodes.{RuleNodes}
 use Rattle.terms.specs.Terms.{Rule, terms}
 use Rattle.terms.specs.Nodes.{Rooted}
 
 pub record Represents (x : RuleNodes) (r : Rule) : Type 0 where
   pub width : x.width ≡ r.width
-  pub needed : x.needed ≡ length r.needs
-  pub rooted : Rooted x.nodes x.len x.roots 0 (terms r)
+  pub rooted : Rooted x.nodes.items x.roots.items (terms r)

@@ -1,12 +1,14 @@
 // Terms over machine words and the rules between them, as nodes in arrays.
 #![tactic(auto)]
 
+mod assignment;
 mod evaluation;
 mod measure;
 mod node;
 mod rule;
 mod usability;
 
+pub use assignment::Assignment;
 pub use evaluation::{evaluate, fails_at};
 pub use node::Node;
 pub use rule::RuleNodes;

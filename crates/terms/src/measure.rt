@@ -1,5 +1,6 @@
 // The measures of a rule's terms: what the limits and the conditions of use speak of.
-ghost use Rattle.std.specs.Prelude.{◌≡◌, ℕ, ◌<◌, ◌≤◌, true, slice_index_or};
+ghost use Rattle.std.specs.Prelude.{◌≡◌, ℕ, ◌<◌, true, length, slice_index_or};
+ghost use Rattle.arrayvec.specs.ArrayVec.{array_vec_len};
 ghost use Rattle.words.specs.Words.{bits};
 ghost use Rattle.terms.specs.Terms.{Term, Rule, load2};
 ghost use Rattle.terms.specs.Nodes.{Stands, sound};
@@ -14,7 +15,7 @@ use words::{BinaryOp, Width};
 //
 // Load and operations wrap, so that there is a measure of any term. Those of a rule within the
 // limits are far too small for that.
-#[derive(Clone, Copy)]
+#[derive(Clone, Copy, Default)]
 pub(crate) struct Measure {
     pub(crate) load: u64,
     pub(crate) operations: u64,
@@ -23,7 +24,7 @@ pub(crate) struct Measure {
 }
 
 // The measures of a rule: of its needed terms together, of its first side and of its second.
-#[derive(Clone, Copy)]
+#[derive(Clone, Copy, Default)]
 pub(crate) struct RuleMeasure {
     pub(crate) needs: Measure,
     pub(crate) from: Measure,
@@ -31,18 +32,6 @@ pub(crate) struct RuleMeasure {
 }
 
 impl Measure {
-    // Of no term.
-    fn nothing() -> Measure
-        ensures { result ≡ nothing }
-    {
-        Measure {
-            load: 0,
-            operations: 0,
-            anys: 0,
-            cons: 0,
-        }
-    }
-
     // Of a name or a literal, with the sets of its names.
     fn leaf(load: u64, anys: u16, cons: u16) -> Measure
         ensures { result ≡ leaf load anys cons }
@@ -95,10 +84,9 @@ fn binary_load(width: Width, op: BinaryOp) -> u64
     }
 }
 
-// The measure of the node at place i, from those at the places before it.
-fn node_measure(width: Width, node: Node, i: usize, before: &[Measure; 102]) -> Measure
-    requires place { i ≤ 102 }
-    requires sound { sound (bits width) i node ≡ true }
+// The measure of a node, from those of the nodes before it.
+fn node_measure(width: Width, node: Node, before: &[Measure]) -> Measure
+    requires { sound (bits width) (length before.now) node ≡ true }
     ensures { result ≡ node_measure (bits width) before.now node }
 {
     let load = u64::from(width.bits());
@@ -120,30 +108,34 @@ fn node_measure(width: Width, node: Node, i: usize, before: &[Measure; 102]) -> 
 
 // The measures of the terms of all nodes.
 fn node_measures(rule: &RuleNodes) -> [Measure; 102]
-    ensures { (i : ℕ) (e : Term) → i < rule.now.len → Stands rule.now.nodes i e → slice_index_or result i nothing ≡ measure_of (bits rule.now.width) e }
+    ensures { (i : ℕ) (e : Term) → i < array_vec_len rule.now.nodes → Stands rule.now.nodes.items i e → slice_index_or result i nothing ≡ measure_of (bits rule.now.width) e }
 {
-    let mut all = [Measure::nothing(); 102];
-    for i in 0..rule.len {
-        all[i] = node_measure(rule.width, rule.nodes[i], i, &all);
+    let mut all = [Measure::default(); 102];
+    let nodes = rule.nodes.as_slice();
+    for (i, node) in nodes.iter().enumerate() {
+        all[i] = node_measure(rule.width, *node, &all[..i]);
     }
     all
 }
 
 impl RuleMeasure {
-    // The measures of the rule that the nodes represent.
+    // The measures of the rule that the nodes represent. They represent none before they have the
+    // roots of both sides.
     pub(crate) fn of(rule: &RuleNodes) -> RuleMeasure
         ensures { (r : Rule) → Represents rule.now r → result ≡ measure_rule r }
     {
+        let [needed @ .., from, to] = rule.roots.as_slice() else {
+            return RuleMeasure::default();
+        };
         let all = node_measures(rule);
-        let mut needs = Measure::nothing();
-        // from the last on, so that each joins in front of those after it
-        for k in (0..rule.needed).rev() {
-            needs = all[rule.roots[k]].and(needs);
+        let mut needs = Measure::default();
+        for root in needed {
+            needs = needs.and(all[*root]);
         }
         RuleMeasure {
             needs,
-            from: all[rule.roots[rule.needed]],
-            to: all[rule.roots[rule.needed + 1]],
+            from: all[*from],
+            to: all[*to],
         }
     }
 }

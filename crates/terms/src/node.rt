@@ -10,3 +10,10 @@ pub enum Node {
     Binary(BinaryOp, usize, usize),
     Ite(usize, usize, usize),
 }
+
+// What fills the room for nodes to come.
+impl Default for Node {
+    fn default() -> Node {
+        Node::Any(0)
+    }
+}

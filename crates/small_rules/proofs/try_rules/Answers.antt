@@ -6,11 +6,11 @@ pub unreachable-requires : goal.unreachable-requires
 unreachable-requires c =
     let book = c.requires.says in
     let n = book.2 in
-    rule_there c.args.text.now c.loop-i.at c.loop-i.i c.loop-i.invariant book.0 book.1 (omega arith) c.in-Err.ensures
+    rule_there c.args.text.now c.loop-rule.at c.loop-rule._rule c.loop-rule.invariant book.0 book.1 (omega arith) c.in-Err.ensures
 
-pub loop-i-preserved : goal.loop-i-preserved
-loop-i-preserved c =
+pub loop-rule-preserved : goal.loop-rule-preserved
+loop-rule-preserved c =
     let book = c.requires.says in
     let n = book.2 in
     let few = book_few c.args.text.now book.0 book.1 in
-    one_rule_more c.args.text.now c.loop-i.at c.in-Ok.read.end c.loop-i.i c.in-Ok.read.rule c.loop-i.invariant (omega arith) c.in-Ok.ensures
+    one_rule_more c.args.text.now c.loop-rule.at c.in-Ok.read.end c.loop-rule._rule c.in-Ok.read.rule c.loop-rule.invariant (omega arith) c.in-Ok.ensures

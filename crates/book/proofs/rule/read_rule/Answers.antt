@@ -1,4 +1,4 @@
-use Rattle.std.proofs.Common.{◌+◌, subst}
+use Rattle.std.proofs.Common.{◌+◌, ap, subst}
 use Rattle.std.proofs.lemmas.Result.{err_from_is_err_and}
 use Rattle.book.specs.Reading.{NoTerms}
 use Rattle.book.proofs.RuleReads.{no_header, no_terms, rule_read}
@@ -22,5 +22,5 @@ returns c =
     let h = c.in_ok-header.header in
     let t = c.in_ok-terms.terms in
     let set = c.set_roots.ensures in
-    rule_read c.args.text.now c.args.at h.end t.end h.needed t.left h.width c.new-rule.result c.read_terms.new.rule c.set_roots.new.self t.roots c.in_ok-header.ensures c.in_ok-terms.ensures
-    c.new-rule.ensures.width c.new-rule.ensures.needed set.width set.needed set.nodes set.len set.roots
+    rule_read c.args.text.now c.args.at h.end t.end h.needed t.left h.width c.new-rule.result c.read_terms.new.rule c.set_roots.new.self t.roots.items c.in_ok-header.ensures c.in_ok-terms.ensures
+    c.new-rule.ensures.width set.width set.nodes (ap (λ v. v.items) set.roots)

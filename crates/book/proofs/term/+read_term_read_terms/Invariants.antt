@@ -10,4 +10,4 @@ abbrev pub decreases-read_terms : goal.decreases-read_terms
 decreases-read_terms l = 2 * l.left + 1
 
 abbrev pub invariant-read_terms-loop-i : goal.invariant-read_terms-loop-i
-invariant-read_terms-loop-i l = IsTermsRead l.text l.at l.i l.left l.initial.rule l.rule l.roots l.end l.spare
+invariant-read_terms-loop-i l = IsTermsRead l.text l.at l.i l.left l.initial.rule l.rule l.roots.items l.end l.spare

@@ -1,5 +1,4 @@
-use Rattle.std.proofs.Common.{get_or, set, sym, refl, ap, ◌∙◌}
-use Rattle.terms.specs.declared.node.Node.TheVariants.{Any}
+use Rattle.std.proofs.Common.{[], ◌∷◌, ◌++◌, length, refl, ap, ◌∙◌}
 use Rattle.words.specs.Words.{bits}
 use Rattle.terms.specs.Nodes.{sound}
 use Rattle.std.proofs.lemmas.Result.{err_from_is_err_and}
@@ -24,7 +23,7 @@ push-root-requires c =
     let x = c.args.rule.now in
     record {
       room = c.requires.1;
-      sound = ap (sound (bits x.width) x.len) c.leaf_node.ensures ∙ leaf_sound (bits x.width) x.len n c.args.leaf ∙ c.largest.ensures n ∙ le-leb n c.largest.result c.if-number-largest.false;
+      sound = ap (sound (bits x.width) (length x.nodes.items)) c.leaf_node.ensures ∙ leaf_sound (bits x.width) (length x.nodes.items) n c.args.leaf ∙ c.largest.ensures n ∙ le-leb n c.largest.result c.if-number-largest.false;
     }
 
 pub returns : goal.returns
@@ -36,7 +35,7 @@ returns c =
         number = n;
         read = c.in_ok-number.ensures;
         ok = c.largest.ensures n ∙ le-leb n c.largest.result c.if-number-largest.false;
-        pushed = record { there = ap (λ i. get_or c.push-root.new.self.nodes i (Any 0)) (sym push.place) ∙ push.there ∙ c.leaf_node.ensures; len = push.len; nodes = push.nodes ∙ ap (set x.nodes x.len) c.leaf_node.ensures; width = push.width; needed = push.needed };
+        pushed = record { nodes = push.nodes ∙ ap (λ m. x.nodes.items ++ m ∷ []) c.leaf_node.ensures; width = push.width };
         last = push.place;
       },
       refl,

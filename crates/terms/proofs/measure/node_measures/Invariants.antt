@@ -6,4 +6,7 @@ use Rattle.terms.specs.Measures.{measure_of, nothing}
 use Rattle.terms.proofs.measure.node_measures.Given as goal
 
 abbrev pub invariant-loop-i : goal.invariant-loop-i
-invariant-loop-i l = (length l.all ≡ 102) × ((j : ℕ) (e : Term) → j < l.i → Stands l.rule.nodes j e → get_or l.all j nothing ≡ measure_of (bits l.rule.width) e)
+invariant-loop-i l = record {
+  long : length l.all ≡ 102;
+  measures : (j : ℕ) (e : Term) → j < l.i → Stands l.nodes j e → get_or l.all j nothing ≡ measure_of (bits l.rule.width) e;
+}
