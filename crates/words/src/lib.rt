@@ -23,14 +23,14 @@ pub enum Width {
 }
 
 // The operations of one operand.
-#[derive(Clone, Copy)]
+#[derive(Clone, Copy, PartialEq, Eq, Debug)]
 pub enum UnaryOp {
     Not,
     Neg,
 }
 
 // The operations of two operands, under SMT-LIB's names without their `bv`.
-#[derive(Clone, Copy)]
+#[derive(Clone, Copy, PartialEq, Eq, Debug)]
 pub enum BinaryOp {
     Add,
     Sub,
