@@ -16,7 +16,7 @@ use Rattle.circuit.specs.Nets.{Net, said}
 use Rattle.circuit.specs.Sizes.{Grows}
 use Rattle.circuit.proofs.Sizes.{grows_none, said_grows, bitwise_grows, unary_grows, binary_grows, ite_grows, divide_grows}
 use Rattle.encoding.specs.declared.entry.Entry.{Entry}
-use Rattle.encoding.specs.declared.entry.Entry.TheVariants.{Name, Number, Unary, Binary, Ite, Divide, Part}
+use Rattle.encoding.specs.declared.entry.Entry.TheVariants.{Any, Con, Number, Unary, Binary, Ite, Divide, Part}
 use Rattle.encoding.specs.Encode.{start, entry_n, table_n, stated_n, encode}
 use Rattle.encoding.specs.Sizes.{entry_load, table_load}
 use Rattle.encoding.specs.Table.{numbered, numbered_all}
@@ -29,7 +29,8 @@ use Rattle.encoding.proofs.TableSizes.{terms_load}
 
 module _ (w : ℕ) (two : 2 ≤ w) (few : w ≤ 64) (t : List Entry) (made : WellMade w t) where
   entry_grows : (n : Net) (ws : List (List Literal)) (i : ℕ) → i ≤ length t → Spelled w t made n ws i → (e : Entry) → MadeAt w t i e → Grows n (entry_n w ws e n).0 (4 * entry_load w e) (entry_load w e)
-  entry_grows n ws i le so (Name k) m = grows_none n _ _
+  entry_grows n ws i le so (Any k) m = grows_none n _ _
+  entry_grows n ws i le so (Con k) m = grows_none n _ _
   entry_grows n ws i le so (Number x) m = grows_none n _ _
   entry_grows n ws i le so (Unary o j) m =
       let l = operand_size w t made n ws i le so j m in
@@ -48,7 +49,7 @@ module _ (w : ℕ) (two : 2 ≤ w) (few : w ≤ 64) (t : List Entry) (made : Wel
   table_grows front [] ws n e so = grows_none n _ _
   table_grows front (x ∷ es) ws n e so =
       let lt : length front < length t = subst (λ k. length front < k) (ap length e) (omega (arith, length-append front (x ∷ es))) in
-      let is : get_or t (length front) (Name 0) ≡ x = ap (λ xs. get_or xs (length front) (Name 0)) (sym e) ∙ get_or_at front x es (Name 0) (length front) refl in
+      let is : get_or t (length front) (Any 0) ≡ x = ap (λ xs. get_or xs (length front) (Any 0)) (sym e) ∙ get_or_at front x es (Any 0) (length front) refl in
       let r = entry_n w ws x n in
       let g = entry_grows n ws (length front) (omega arith) so x (subst (MadeAt w t (length front)) is (made (length front) lt)) in
       let h = table_grows (front ++ (x ∷ [])) es (ws ++ (r.1 ∷ [])) r.0 (append_assoc front (x ∷ []) es ∙ e)

@@ -9,8 +9,9 @@ use Rattle.circuit.specs.declared.gates.Bitwise.TheVariants.{Exclusive}
 use Rattle.circuit.specs.Circuits.{bitwise_n, ite_n, divide_n, unary_n, binary_n}
 use Rattle.circuit.specs.Meaning.{truth_of}
 use Rattle.encoding.specs.declared.entry.Entry.{Entry}
-use Rattle.encoding.specs.declared.entry.Entry.TheVariants.{Name, Number, Unary, Binary, Ite, Divide, Part}
+use Rattle.encoding.specs.declared.entry.Entry.TheVariants.{Any, Con, Number, Unary, Binary, Ite, Divide, Part}
 use Rattle.encoding.specs.Table.{numbered_all}
+use Rattle.encoding.specs.Values.{order}
 
 abbrev pub constant : Bool → Literal
 constant true = high
@@ -22,13 +23,14 @@ start w = record { next = 1 + 32 * w; out = 2 ∷ 0 ∷ [] }
 
 -- an entry's word, over the words of the entries before it
 abbrev pub entry_n : ℕ → List (List Literal) → Entry → Net → Net × List Literal
-entry_n w ws (Name k) n = (n, wires w (1 + k * w))
+entry_n w ws (Any k) n = (n, wires w (1 + k * w))
+entry_n w ws (Con k) n = (n, wires w (1 + (16 + k) * w))
 entry_n w ws (Number x) n = (n, map constant (bits_of w x))
 entry_n w ws (Unary o i) n = unary_n o (slice_index_or ws i []) n
 entry_n w ws (Binary o i j) n = binary_n o (slice_index_or ws i []) (slice_index_or ws j []) n
 entry_n w ws (Ite h i j) n = ite_n (slice_index_or ws h []) (slice_index_or ws i []) (slice_index_or ws j []) n
 entry_n w ws (Divide i j) n = divide_n w (slice_index_or ws i []) (slice_index_or ws j []) n
-entry_n w ws (Part k p) n = (n, take w (drop (p * w) (slice_index_or ws k [])))
+entry_n w ws (Part k p) n = (n, take w (drop (order p * w) (slice_index_or ws k [])))
 
 -- the words of a table's entries
 abbrev pub table_n : ℕ → List Entry → List (List Literal) → Net → Net × List (List Literal)
