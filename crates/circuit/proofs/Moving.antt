@@ -6,7 +6,7 @@ use lib.Dec.{leb-suc-suc}
 use native.Mathlib.Nat.{zero-div, zero-mod, mod-one, suc-sub-suc}
 use Rattle.std.proofs.lemmas.List.{ext_get_or, get_or_past}
 use Rattle.std.proofs.lemmas.Bool.{cases_lt, lt-ltb, le-ltb}
-use Rattle.circuit.specs.Bits.{bit, val, not_b, fill, up_one, down_one, table, moved}
+use Rattle.circuit.specs.Bits.{bit, val, not_bits, fill, up_one, down_one, table, moved}
 use Rattle.circuit.proofs.Numbers.{bit_lt, div_digit, mod_digit, val_lt, val_not, length_not, length_fill}
 
 module _ {A : Type 0} where
@@ -119,27 +119,27 @@ val_down k xs =
     ∙ (val_part xs (length xs) k ∙ mod-eq_of_lt (omega (arith, val_lt xs, div-le_self (val xs) (2 ^ k))))
 
 -- to the right, with 1 coming in: the complement of what the complement gives
-not_table : (f : ℕ → Bool) (n i : ℕ) → not_b (table f n i) ≡ table (λ j. not (f j)) n i
+not_table : (f : ℕ → Bool) (n i : ℕ) → not_bits (table f n i) ≡ table (λ j. not (f j)) n i
 not_table f zero i = refl
 not_table f (suc n) i = ap (λ t. not (f i) ∷ t) (not_table f n (suc i))
 
-not_get_or : (xs : List Bool) (i : ℕ) → not (get_or (not_b xs) i false) ≡ get_or xs i true
+not_get_or : (xs : List Bool) (i : ℕ) → not (get_or (not_bits xs) i false) ≡ get_or xs i true
 not_get_or [] i = refl
 not_get_or (true ∷ xs) zero = refl
 not_get_or (false ∷ xs) zero = refl
 not_get_or (x ∷ xs) (suc i) = not_get_or xs i
 
-not_down : (k : ℕ) (xs : List Bool) → not_b (moved Right false k (not_b xs)) ≡ moved Right true k xs
+not_down : (k : ℕ) (xs : List Bool) → not_bits (moved Right false k (not_bits xs)) ≡ moved Right true k xs
 not_down k xs =
-    not_table (down_one false k (not_b xs)) (length (not_b xs)) 0
+    not_table (down_one false k (not_bits xs)) (length (not_bits xs)) 0
     ∙ ap₂ (λ f n. table f n 0) (λ t i. not_get_or xs (i + k) t) (length_not xs)
 
 pub val_down_ones : (k : ℕ) (xs : List Bool) → val (moved Right true k xs) ≡ 2 ^ length xs - 1 - (2 ^ length xs - 1 - val xs) / 2 ^ k
 val_down_ones k xs =
-    let c : val (not_b xs) ≡ 2 ^ length xs - 1 - val xs = omega (arith, val_not xs) in
-    let d = val_down k (not_b xs) ∙ ap (λ v. v / 2 ^ k) c in
-    let n = val_not (moved Right false k (not_b xs)) in
-    let l : 2 ^ length (moved Right false k (not_b xs)) ≡ 2 ^ length xs = ap (λ j. 2 ^ j) (length_moved Right false k (not_b xs) ∙ length_not xs) in
+    let c : val (not_bits xs) ≡ 2 ^ length xs - 1 - val xs = omega (arith, val_not xs) in
+    let d = val_down k (not_bits xs) ∙ ap (λ v. v / 2 ^ k) c in
+    let n = val_not (moved Right false k (not_bits xs)) in
+    let l : 2 ^ length (moved Right false k (not_bits xs)) ≡ 2 ^ length xs = ap (λ j. 2 ^ j) (length_moved Right false k (not_bits xs) ∙ length_not xs) in
     sym (ap val (not_down k xs)) ∙ omega arith
 
 -- to the left, with 0 coming in

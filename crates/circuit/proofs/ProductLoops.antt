@@ -5,9 +5,9 @@ use Rattle.std.proofs.lemmas.List.{take_all, take_rest, drop_all, drop_at, drop-
 use Rattle.clauses.specs.declared.literal.Literal.{Literal}
 use Rattle.circuit.specs.Bits.{lower}
 use Rattle.circuit.specs.Nets.{Net, low}
-use Rattle.circuit.specs.Gates.{and_n}
-use Rattle.circuit.specs.Circuits.{row_n, product_n}
-use Rattle.circuit.specs.Parts.{product_row_n}
+use Rattle.circuit.specs.Gates.{and_net}
+use Rattle.circuit.specs.Circuits.{row_net, product_net}
+use Rattle.circuit.specs.Parts.{product_row_net}
 use Rattle.circuit.specs.Built.{Written, Wrote}
 use Rattle.circuit.proofs.Growing.{Grows, grows_same, grows_then}
 use Rattle.circuit.proofs.Circuits.{product_row_grows}
@@ -27,7 +27,7 @@ pub first_written : (xs ys : List Literal) (v : Literal) (m : ℕ) → 0 < lengt
 first_written [] ys v m h l = let z : ⊥ = omega arith in absurd z
 first_written (x ∷ xs) ys v m h l = ap (λ r. v ∷ (ys ++ r)) (drop_all m xs (omega arith)) ∙ ap (λ r. v ∷ r) (append-nil ys)
 
-pub product_row_is : (x : Literal) (ys qs : List Literal) (n : Net) → 0 < length ys → let p = and_n x (get_or ys 0 blank) n in let r = row_n x (drop 1 ys) qs low p.0 in product_row_n x ys qs n ≡ (r.0, (p.1 ∷ r.1.0, r.1.1))
+pub product_row_is : (x : Literal) (ys qs : List Literal) (n : Net) → 0 < length ys → let p = and_net x (get_or ys 0 blank) n in let r = row_net x (drop 1 ys) qs low p.0 in product_row_net x ys qs n ≡ (r.0, (p.1 ∷ r.1.0, r.1.1))
 product_row_is x [] qs n h = let z : ⊥ = omega arith in absurd z
 product_row_is x (y ∷ ys) qs n h = refl
 
@@ -38,28 +38,28 @@ lower_take y (z ∷ zs) (suc m) h = ap (λ l. y ∷ l) (lower_take z zs m (omega
 
 -- a row under what the rows above give
 abbrev pub under : Literal → List Literal → Net × (List Literal × List Literal) → Net × (List Literal × List Literal)
-under x ys q = let r = product_row_n x ys q.1.0 q.0 in (r.0, (r.1.0, r.1.1 ∷ q.1.1))
+under x ys q = let r = product_row_net x ys q.1.0 q.0 in (r.0, (r.1.0, r.1.1 ∷ q.1.1))
 
-product_step : (x : Literal) (xs ys : List Literal) (m : ℕ) (n : Net) → m < length ys → product_n (x ∷ xs) (take (suc m) ys) n ≡ under x (take (suc m) ys) (product_n xs (take m ys) n)
+product_step : (x : Literal) (xs ys : List Literal) (m : ℕ) (n : Net) → m < length ys → product_net (x ∷ xs) (take (suc m) ys) n ≡ under x (take (suc m) ys) (product_net xs (take m ys) n)
 product_step x xs [] m n h = let z : ⊥ = omega arith in absurd z
-product_step x xs (y ∷ ys) m n h = ap (λ l. under x (y ∷ take m ys) (product_n xs l n)) (lower_take y ys m (omega arith))
+product_step x xs (y ∷ ys) m n h = ap (λ l. under x (y ∷ take m ys) (product_net xs l n)) (lower_take y ys m (omega arith))
 
 -- the rows from k on
 abbrev pub rows_from : ℕ → List Literal → List Literal → Net → Net × (List Literal × List Literal)
-rows_from k xs ys n = product_n (drop k xs) (take (length xs - k) ys) n
+rows_from k xs ys n = product_net (drop k xs) (take (length xs - k) ys) n
 
 pub rows_more : (xs ys : List Literal) (k : ℕ) (n : Net) → k < length xs → length ys ≡ length xs → rows_from k xs ys n ≡ under (get_or xs k blank) (take (length xs - k) ys) (rows_from (suc k) xs ys n)
 rows_more xs ys k n h e =
     let left : length xs - k ≡ suc (length xs - suc k) = omega arith in
-    ap (λ l. product_n l (take (length xs - k) ys) n) (drop-cons xs k blank h)
-    ∙ ap (λ m. product_n (get_or xs k blank ∷ drop (suc k) xs) (take m ys) n) left
+    ap (λ l. product_net l (take (length xs - k) ys) n) (drop-cons xs k blank h)
+    ∙ ap (λ m. product_net (get_or xs k blank ∷ drop (suc k) xs) (take m ys) n) left
     ∙ product_step (get_or xs k blank) (drop (suc k) xs) ys (length xs - suc k) n (omega arith)
     ∙ ap (λ m. under (get_or xs k blank) (take m ys) (rows_from (suc k) xs ys n)) (sym left)
 
-rows_zero : (xs ys : List Literal) (n : Net) → length ys ≡ length xs → rows_from 0 xs ys n ≡ product_n xs ys n
-rows_zero xs ys n e = ap (λ l. product_n xs l n) (take_all (length xs - 0) ys (omega arith))
+rows_zero : (xs ys : List Literal) (n : Net) → length ys ≡ length xs → rows_from 0 xs ys n ≡ product_net xs ys n
+rows_zero xs ys n e = ap (λ l. product_net xs l n) (take_all (length xs - 0) ys (omega arith))
 
-pub rows_grow : (xs ys : List Literal) (k : ℕ) (n : Net) → k ≤ length xs → length ys ≡ length xs → Grows (rows_from k xs ys n).0 (product_n xs ys n).0
+pub rows_grow : (xs ys : List Literal) (k : ℕ) (n : Net) → k ≤ length xs → length ys ≡ length xs → Grows (rows_from k xs ys n).0 (product_net xs ys n).0
 rows_grow xs ys zero n h e = subst (λ q. Grows (rows_from 0 xs ys n).0 q.0) (rows_zero xs ys n e) (grows_same _)
 rows_grow xs ys (suc k) n h e =
     let q = rows_from (suc k) xs ys n in
@@ -68,7 +68,7 @@ rows_grow xs ys (suc k) n h e =
 
 -- one more row, as the code has its words of width w
 abbrev pub row_at : ℕ → ℕ → List Literal → List Literal → List Literal → Net → Net × (List Literal × Literal)
-row_at w k xs ys os n = product_row_n (get_or xs k blank) (take (w - k - 0) ys) (drop 1 (take (w - k) (drop k os))) n
+row_at w k xs ys os n = product_row_net (get_or xs k blank) (take (w - k - 0) ys) (drop 1 (take (w - k) (drop k os))) n
 
 row_of : (xs ys os cs : List Literal) (i : ℕ) (n m : Net) → 0 < i → i ≤ length xs → length ys ≡ length xs → length os ≡ length xs → rows_from i xs ys n ≡ (m, (drop i os, drop i cs)) → let r = row_at (length xs) (i - 1) xs ys os m in rows_from (i - 1) xs ys n ≡ (r.0, (r.1.0, r.1.1 ∷ drop i cs))
 row_of xs ys os cs i n m pos h e o is =

@@ -4,17 +4,17 @@ use Rattle.circuit.specs.declared.shifting.Direction.{Direction}
 use Rattle.circuit.specs.declared.shifting.Direction.TheVariants.{Left, Right}
 use lib.ListN.{length-map}
 use Rattle.clauses.specs.declared.literal.Literal.{Literal}
-use Rattle.circuit.specs.Bits.{not_b, fill, flag, topped, lower, top, top_of, up_one, down_one, table, moved}
+use Rattle.circuit.specs.Bits.{not_bits, fill, flag, topped, lower, top, top_of, up_one, down_one, table, moved}
 use Rattle.circuit.specs.Nets.{Net}
 use Rattle.circuit.specs.Circuits.{inverted}
 use Rattle.circuit.specs.Meaning.{truth_of, WordBelow, Carries, Spells}
 use Rattle.circuit.proofs.Nets.{carries_itself, spells_itself, carries_negated, carries_as, spells_none, spells_bit, spells_as}
 
 module _ {n : Net} where
-  pub spells_inverted : {ls : List Literal} {f : (ℕ → Bool) → List Bool} → Spells n ls f → Spells n (inverted ls) (λ s. not_b (f s))
-  spells_inverted {ls} w = spells_as (λ s k. ap not_b (w.means s k)) (each ls w.below)
+  pub spells_inverted : {ls : List Literal} {f : (ℕ → Bool) → List Bool} → Spells n ls f → Spells n (inverted ls) (λ s. not_bits (f s))
+  spells_inverted {ls} w = spells_as (λ s k. ap not_bits (w.means s k)) (each ls w.below)
     where
-      each : (ls : List Literal) → WordBelow n.next ls → Spells n (inverted ls) (λ s. not_b (map (truth_of s) ls))
+      each : (ls : List Literal) → WordBelow n.next ls → Spells n (inverted ls) (λ s. not_bits (map (truth_of s) ls))
       each [] b = spells_none
       each (l ∷ ls) b = spells_bit (carries_negated (carries_itself b.0)) (each ls b.1)
 

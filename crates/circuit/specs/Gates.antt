@@ -44,25 +44,25 @@ wire_or (And x y) g n = g
 wire_or (Or x y) g n = g
 wire_or Gate g n = g
 
-abbrev pub and_n : Literal → Literal → Net → Net × Literal
-and_n a b n = wire_or (fold_and a b) (gate (λ o. and_rows o a b) n) n
+abbrev pub and_net : Literal → Literal → Net → Net × Literal
+and_net a b n = wire_or (fold_and a b) (gate (λ o. and_rows o a b) n) n
 
-abbrev pub or_n : Literal → Literal → Net → Net × Literal
-or_n a b n = let r = and_n (negated a) (negated b) n in (r.0, negated r.1)
+abbrev pub or_net : Literal → Literal → Net → Net × Literal
+or_net a b n = let r = and_net (negated a) (negated b) n in (r.0, negated r.1)
 
-abbrev pub xor_n : Literal → Literal → Net → Net × Literal
-xor_n a b n = wire_or (fold_xor a b) (gate (λ o. xor_rows o a b) n) n
+abbrev pub xor_net : Literal → Literal → Net → Net × Literal
+xor_net a b n = wire_or (fold_xor a b) (gate (λ o. xor_rows o a b) n) n
 
 -- a literal or a smaller gate in place of a gate, or the gate
 abbrev pub smaller_or : Folded → Net × Literal → Net → Net × Literal
 smaller_or (Wire l) g n = (n, l)
-smaller_or (And x y) g n = and_n x y n
-smaller_or (Or x y) g n = or_n x y n
+smaller_or (And x y) g n = and_net x y n
+smaller_or (Or x y) g n = or_net x y n
 smaller_or Gate g n = g
 
-abbrev pub majority_n : Literal → Literal → Literal → Net → Net × Literal
-majority_n a b c n = smaller_or (fold_majority a b c) (gate (λ o. majority_rows o a b c) n) n
+abbrev pub majority_net : Literal → Literal → Literal → Net → Net × Literal
+majority_net a b c n = smaller_or (fold_majority a b c) (gate (λ o. majority_rows o a b c) n) n
 
 -- a if s, else b
-abbrev pub choice_n : Literal → Literal → Literal → Net → Net × Literal
-choice_n s a b n = smaller_or (fold_choice s a b) (gate (λ o. choice_rows o s a b) n) n
+abbrev pub choice_net : Literal → Literal → Literal → Net → Net × Literal
+choice_net s a b n = smaller_or (fold_choice s a b) (gate (λ o. choice_rows o s a b) n) n

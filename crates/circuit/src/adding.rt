@@ -1,6 +1,6 @@
 // Sums of words by a ripple of carries.
 ghost use Rattle.std.specs.Prelude.{◌≡◌};
-ghost use Rattle.circuit.specs.Circuits.{full_n, add_n};
+ghost use Rattle.circuit.specs.Circuits.{full_net, add_net};
 ghost use Rattle.circuit.specs.Built.{Fits, Wrote};
 
 use crate::builder::{Builder, LOW};
@@ -16,10 +16,10 @@ pub struct Sum<T> {
 impl Builder<'_> {
     // A full adder.
     pub fn full(&mut self, x: Literal, y: Literal, carry: Literal) -> Sum<Literal>
-        requires { Fits self.old (full_n x y carry self.old.net).0 }
-        ensures wrote { Wrote self.old self.new (full_n x y carry self.old.net).0 }
-        ensures bit { result.sum ≡ (full_n x y carry self.old.net).1.0 }
-        ensures over { result.carry ≡ (full_n x y carry self.old.net).1.1 }
+        requires { Fits self.old (full_net x y carry self.old.net).0 }
+        ensures wrote { Wrote self.old self.new (full_net x y carry self.old.net).0 }
+        ensures bit { result.sum ≡ (full_net x y carry self.old.net).1.0 }
+        ensures over { result.carry ≡ (full_net x y carry self.old.net).1.1 }
     {
         let half = self.xor(x, y);
         let sum = self.xor(half, carry);
@@ -34,10 +34,10 @@ impl Builder<'_> {
         y: &[Literal; WIDTH],
         carry: Literal,
     ) -> Sum<[Literal; WIDTH]>
-        requires { Fits self.old (add_n x.now y.now carry self.old.net).0 }
-        ensures wrote { Wrote self.old self.new (add_n x.now y.now carry self.old.net).0 }
-        ensures sum { result.sum ≡ (add_n x.now y.now carry self.old.net).1.0 }
-        ensures over { result.carry ≡ (add_n x.now y.now carry self.old.net).1.1 }
+        requires { Fits self.old (add_net x.now y.now carry self.old.net).0 }
+        ensures wrote { Wrote self.old self.new (add_net x.now y.now carry self.old.net).0 }
+        ensures sum { result.sum ≡ (add_net x.now y.now carry self.old.net).1.0 }
+        ensures over { result.carry ≡ (add_net x.now y.now carry self.old.net).1.1 }
     {
         let mut sum = [LOW; WIDTH];
         let mut over = carry;

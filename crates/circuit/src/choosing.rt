@@ -1,6 +1,6 @@
 // Words bit by bit: a gate for each place.
 ghost use Rattle.std.specs.Prelude.{◌≡◌};
-ghost use Rattle.circuit.specs.Circuits.{bit_n, bitwise_n, choose_n, ite_n};
+ghost use Rattle.circuit.specs.Circuits.{bit_net, bitwise_net, choose_net, ite_net};
 ghost use Rattle.circuit.specs.Built.{Fits, Wrote};
 
 use crate::builder::{Builder, LOW};
@@ -10,9 +10,9 @@ use clauses::Literal;
 impl Builder<'_> {
     // The gate of one place. It is data and no closure, since the definitions of nets speak of it by name.
     fn bit(&mut self, op: Bitwise, a: Literal, b: Literal) -> Literal
-        requires { Fits self.old (bit_n op a b self.old.net).0 }
-        ensures wrote { Wrote self.old self.new (bit_n op a b self.old.net).0 }
-        ensures output { result ≡ (bit_n op a b self.old.net).1 }
+        requires { Fits self.old (bit_net op a b self.old.net).0 }
+        ensures wrote { Wrote self.old self.new (bit_net op a b self.old.net).0 }
+        ensures output { result ≡ (bit_net op a b self.old.net).1 }
     {
         match op {
             Bitwise::Conjunction => self.and(a, b),
@@ -28,9 +28,9 @@ impl Builder<'_> {
         x: &[Literal; WIDTH],
         y: &[Literal; WIDTH],
     ) -> [Literal; WIDTH]
-        requires { Fits self.old (bitwise_n op x.now y.now self.old.net).0 }
-        ensures wrote { Wrote self.old self.new (bitwise_n op x.now y.now self.old.net).0 }
-        ensures word { result ≡ (bitwise_n op x.now y.now self.old.net).1 }
+        requires { Fits self.old (bitwise_net op x.now y.now self.old.net).0 }
+        ensures wrote { Wrote self.old self.new (bitwise_net op x.now y.now self.old.net).0 }
+        ensures word { result ≡ (bitwise_net op x.now y.now self.old.net).1 }
     {
         let mut word = [LOW; WIDTH];
         for (i, (a, b)) in x.iter().zip(y).enumerate() {
@@ -46,9 +46,9 @@ impl Builder<'_> {
         x: &[Literal; WIDTH],
         y: &[Literal; WIDTH],
     ) -> [Literal; WIDTH]
-        requires { Fits self.old (choose_n s x.now y.now self.old.net).0 }
-        ensures wrote { Wrote self.old self.new (choose_n s x.now y.now self.old.net).0 }
-        ensures word { result ≡ (choose_n s x.now y.now self.old.net).1 }
+        requires { Fits self.old (choose_net s x.now y.now self.old.net).0 }
+        ensures wrote { Wrote self.old self.new (choose_net s x.now y.now self.old.net).0 }
+        ensures word { result ≡ (choose_net s x.now y.now self.old.net).1 }
     {
         let mut word = [LOW; WIDTH];
         for (i, (a, b)) in x.iter().zip(y).enumerate() {
@@ -64,9 +64,9 @@ impl Builder<'_> {
         x: &[Literal; WIDTH],
         y: &[Literal; WIDTH],
     ) -> [Literal; WIDTH]
-        requires { Fits self.old (ite_n t.now x.now y.now self.old.net).0 }
-        ensures wrote { Wrote self.old self.new (ite_n t.now x.now y.now self.old.net).0 }
-        ensures word { result ≡ (ite_n t.now x.now y.now self.old.net).1 }
+        requires { Fits self.old (ite_net t.now x.now y.now self.old.net).0 }
+        ensures wrote { Wrote self.old self.new (ite_net t.now x.now y.now self.old.net).0 }
+        ensures word { result ≡ (ite_net t.now x.now y.now self.old.net).1 }
     {
         let test = self.any(t);
         self.choose(test, x, y)

@@ -2,8 +2,8 @@
 ghost use Rattle.std.specs.Prelude.{◌≡◌};
 ghost use Rattle.circuit.specs.Bits.{topped};
 ghost use Rattle.circuit.specs.Nets.{high, low};
-ghost use Rattle.circuit.specs.Circuits.{less_n, equal_n, any_n};
-ghost use Rattle.circuit.specs.Parts.{equal_bit_n};
+ghost use Rattle.circuit.specs.Circuits.{less_net, equal_net, any_net};
+ghost use Rattle.circuit.specs.Parts.{equal_bit_net};
 ghost use Rattle.circuit.specs.Built.{Fits, Wrote};
 
 use crate::builder::{Builder, HIGH, LOW};
@@ -27,9 +27,9 @@ impl Builder<'_> {
         x: &[Literal; WIDTH],
         y: &[Literal; WIDTH],
     ) -> Literal
-        requires { Fits self.old (less_n x.now y.now self.old.net).0 }
-        ensures wrote { Wrote self.old self.new (less_n x.now y.now self.old.net).0 }
-        ensures output { result ≡ (less_n x.now y.now self.old.net).1 }
+        requires { Fits self.old (less_net x.now y.now self.old.net).0 }
+        ensures wrote { Wrote self.old self.new (less_net x.now y.now self.old.net).0 }
+        ensures output { result ≡ (less_net x.now y.now self.old.net).1 }
     {
         let mut enough = HIGH;
         for (a, b) in x.iter().zip(y) {
@@ -44,9 +44,9 @@ impl Builder<'_> {
         x: &[Literal; WIDTH],
         y: &[Literal; WIDTH],
     ) -> Literal
-        requires { Fits self.old (less_n (topped x.now y.now) (topped y.now x.now) self.old.net).0 }
-        ensures wrote { Wrote self.old self.new (less_n (topped x.now y.now) (topped y.now x.now) self.old.net).0 }
-        ensures output { result ≡ (less_n (topped x.now y.now) (topped y.now x.now) self.old.net).1 }
+        requires { Fits self.old (less_net (topped x.now y.now) (topped y.now x.now) self.old.net).0 }
+        ensures wrote { Wrote self.old self.new (less_net (topped x.now y.now) (topped y.now x.now) self.old.net).0 }
+        ensures output { result ≡ (less_net (topped x.now y.now) (topped y.now x.now) self.old.net).1 }
     {
         let left = with_top_of(x, y);
         let right = with_top_of(y, x);
@@ -55,9 +55,9 @@ impl Builder<'_> {
 
     // Whether two bits are equal, and the bits so far.
     fn equal_bit(&mut self, x: Literal, y: Literal, before: Literal) -> Literal
-        requires { Fits self.old (equal_bit_n x y before self.old.net).0 }
-        ensures wrote { Wrote self.old self.new (equal_bit_n x y before self.old.net).0 }
-        ensures output { result ≡ (equal_bit_n x y before self.old.net).1 }
+        requires { Fits self.old (equal_bit_net x y before self.old.net).0 }
+        ensures wrote { Wrote self.old self.new (equal_bit_net x y before self.old.net).0 }
+        ensures output { result ≡ (equal_bit_net x y before self.old.net).1 }
     {
         let apart = self.xor(x, y);
         let alike = apart.negated();
@@ -70,9 +70,9 @@ impl Builder<'_> {
         x: &[Literal; WIDTH],
         y: &[Literal; WIDTH],
     ) -> Literal
-        requires { Fits self.old (equal_n x.now y.now high self.old.net).0 }
-        ensures wrote { Wrote self.old self.new (equal_n x.now y.now high self.old.net).0 }
-        ensures output { result ≡ (equal_n x.now y.now high self.old.net).1 }
+        requires { Fits self.old (equal_net x.now y.now high self.old.net).0 }
+        ensures wrote { Wrote self.old self.new (equal_net x.now y.now high self.old.net).0 }
+        ensures output { result ≡ (equal_net x.now y.now high self.old.net).1 }
     {
         let mut so_far = HIGH;
         for (a, b) in x.iter().zip(y) {
@@ -83,9 +83,9 @@ impl Builder<'_> {
 
     // Whether x has a 1.
     pub fn any(&mut self, x: &[Literal]) -> Literal
-        requires { Fits self.old (any_n x.now low self.old.net).0 }
-        ensures wrote { Wrote self.old self.new (any_n x.now low self.old.net).0 }
-        ensures output { result ≡ (any_n x.now low self.old.net).1 }
+        requires { Fits self.old (any_net x.now low self.old.net).0 }
+        ensures wrote { Wrote self.old self.new (any_net x.now low self.old.net).0 }
+        ensures output { result ≡ (any_net x.now low self.old.net).1 }
     {
         let mut so_far = LOW;
         for bit in x {

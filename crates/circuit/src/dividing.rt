@@ -1,8 +1,8 @@
 // Division by clauses: a quotient and a remainder are words of free variables, and the clauses leave them
 // exactly one pair of values.
 ghost use Rattle.std.specs.Prelude.{◌≡◌, ◌≤◌, length};
-ghost use Rattle.circuit.specs.Circuits.{denied_n, none_n, apart_n, equated_n, unless_n, divides_n};
-ghost use Rattle.circuit.specs.Parts.{sums_n, bounded_n};
+ghost use Rattle.circuit.specs.Circuits.{denied_net, none_net, apart_net, equated_net, unless_net, divides_net};
+ghost use Rattle.circuit.specs.Parts.{sums_net, bounded_net};
 ghost use Rattle.circuit.specs.Built.{Fits, Wrote};
 
 use crate::builder::{Builder, LOW};
@@ -11,8 +11,8 @@ use clauses::Literal;
 impl Builder<'_> {
     // x has no 1.
     fn deny(&mut self, x: &[Literal])
-        requires { Fits self.old (denied_n x.now self.old.net) }
-        ensures { Wrote self.old self.new (denied_n x.now self.old.net) }
+        requires { Fits self.old (denied_net x.now self.old.net) }
+        ensures { Wrote self.old self.new (denied_net x.now self.old.net) }
     {
         for bit in x {
             self.clause(&[bit.negated()]);
@@ -21,8 +21,8 @@ impl Builder<'_> {
 
     // No bit of x is 1 together with b.
     fn exclude(&mut self, b: Literal, x: &[Literal])
-        requires { Fits self.old (none_n b x.now self.old.net) }
-        ensures { Wrote self.old self.new (none_n b x.now self.old.net) }
+        requires { Fits self.old (none_net b x.now self.old.net) }
+        ensures { Wrote self.old self.new (none_net b x.now self.old.net) }
     {
         for bit in x {
             self.clause(&[bit.negated(), b.negated()]);
@@ -31,8 +31,8 @@ impl Builder<'_> {
 
     // No bits of x and y meet at a place that their product's word doesn't have.
     fn separate<const WIDTH: usize>(&mut self, x: &[Literal; WIDTH], y: &[Literal; WIDTH])
-        requires { Fits self.old (apart_n x.now y.now self.old.net) }
-        ensures { Wrote self.old self.new (apart_n x.now y.now self.old.net) }
+        requires { Fits self.old (apart_net x.now y.now self.old.net) }
+        ensures { Wrote self.old self.new (apart_net x.now y.now self.old.net) }
     {
         let word: &[Literal] = x;
         for (i, bit) in y.iter().rev().enumerate() {
@@ -42,8 +42,8 @@ impl Builder<'_> {
 
     // x and y are equal.
     fn equate<const WIDTH: usize>(&mut self, x: &[Literal; WIDTH], y: &[Literal; WIDTH])
-        requires { Fits self.old (equated_n x.now y.now self.old.net) }
-        ensures { Wrote self.old self.new (equated_n x.now y.now self.old.net) }
+        requires { Fits self.old (equated_net x.now y.now self.old.net) }
+        ensures { Wrote self.old self.new (equated_net x.now y.now self.old.net) }
     {
         for (a, b) in x.iter().zip(y) {
             self.clause(&[a.negated(), *b]);
@@ -53,8 +53,8 @@ impl Builder<'_> {
 
     // The bits of x are all 1, unless a.
     fn unless(&mut self, a: Literal, x: &[Literal])
-        requires { Fits self.old (unless_n a x.now self.old.net) }
-        ensures { Wrote self.old self.new (unless_n a x.now self.old.net) }
+        requires { Fits self.old (unless_net a x.now self.old.net) }
+        ensures { Wrote self.old self.new (unless_net a x.now self.old.net) }
     {
         for bit in x {
             self.clause(&[a, *bit]);
@@ -68,8 +68,8 @@ impl Builder<'_> {
         remainder: &[Literal; WIDTH],
         x: &[Literal; WIDTH],
     )
-        requires { Fits self.old (sums_n product.now remainder.now x.now self.old.net) }
-        ensures { Wrote self.old self.new (sums_n product.now remainder.now x.now self.old.net) }
+        requires { Fits self.old (sums_net product.now remainder.now x.now self.old.net) }
+        ensures { Wrote self.old self.new (sums_net product.now remainder.now x.now self.old.net) }
     {
         let total = self.add(product, remainder, LOW);
         self.clause(&[total.carry.negated()]);
@@ -83,8 +83,8 @@ impl Builder<'_> {
         y: &[Literal; WIDTH],
         quotient: &[Literal; WIDTH],
     )
-        requires { Fits self.old (bounded_n remainder.now y.now quotient.now self.old.net) }
-        ensures { Wrote self.old self.new (bounded_n remainder.now y.now quotient.now self.old.net) }
+        requires { Fits self.old (bounded_net remainder.now y.now quotient.now self.old.net) }
+        ensures { Wrote self.old self.new (bounded_net remainder.now y.now quotient.now self.old.net) }
     {
         let less = self.less(remainder, y);
         let some = self.any(y);
@@ -103,8 +103,8 @@ impl Builder<'_> {
         product: &[Literal; WIDTH],
         carries: &[Literal],
     )
-        requires { Fits self.old (divides_n x.now y.now quotient.now remainder.now product.now carries.now self.old.net) }
-        ensures { Wrote self.old self.new (divides_n x.now y.now quotient.now remainder.now product.now carries.now self.old.net) }
+        requires { Fits self.old (divides_net x.now y.now quotient.now remainder.now product.now carries.now self.old.net) }
+        ensures { Wrote self.old self.new (divides_net x.now y.now quotient.now remainder.now product.now carries.now self.old.net) }
     {
         self.deny(carries);
         self.separate(y, quotient);

@@ -1,7 +1,7 @@
 // Gates, and what is left of them where an input is a constant or two inputs are alike.
 ghost use Rattle.std.specs.Prelude.{◌≡◌};
 ghost use Rattle.circuit.specs.Gates.{and_rows, xor_rows, majority_rows, choice_rows, gate};
-ghost use Rattle.circuit.specs.Gates.{fold_and, fold_xor, fold_majority, fold_choice, and_n, or_n, xor_n, majority_n, choice_n};
+ghost use Rattle.circuit.specs.Gates.{fold_and, fold_xor, fold_majority, fold_choice, and_net, or_net, xor_net, majority_net, choice_net};
 ghost use Rattle.circuit.specs.Built.{Fits, Wrote};
 
 use crate::builder::{Builder, HIGH, LOW};
@@ -184,9 +184,9 @@ impl Builder<'_> {
 
     // Both a and b.
     pub fn and(&mut self, a: Literal, b: Literal) -> Literal
-        requires { Fits self.old (and_n a b self.old.net).0 }
-        ensures wrote { Wrote self.old self.new (and_n a b self.old.net).0 }
-        ensures output { result ≡ (and_n a b self.old.net).1 }
+        requires { Fits self.old (and_net a b self.old.net).0 }
+        ensures wrote { Wrote self.old self.new (and_net a b self.old.net).0 }
+        ensures output { result ≡ (and_net a b self.old.net).1 }
     {
         match fold_and(a, b) {
             Folded::Wire(wire) => wire,
@@ -196,9 +196,9 @@ impl Builder<'_> {
 
     // One of a and b, or both.
     pub fn or(&mut self, a: Literal, b: Literal) -> Literal
-        requires { Fits self.old (or_n a b self.old.net).0 }
-        ensures wrote { Wrote self.old self.new (or_n a b self.old.net).0 }
-        ensures output { result ≡ (or_n a b self.old.net).1 }
+        requires { Fits self.old (or_net a b self.old.net).0 }
+        ensures wrote { Wrote self.old self.new (or_net a b self.old.net).0 }
+        ensures output { result ≡ (or_net a b self.old.net).1 }
     {
         let not_a = a.negated();
         let not_b = b.negated();
@@ -208,9 +208,9 @@ impl Builder<'_> {
 
     // Exactly one of a and b.
     pub fn xor(&mut self, a: Literal, b: Literal) -> Literal
-        requires { Fits self.old (xor_n a b self.old.net).0 }
-        ensures wrote { Wrote self.old self.new (xor_n a b self.old.net).0 }
-        ensures output { result ≡ (xor_n a b self.old.net).1 }
+        requires { Fits self.old (xor_net a b self.old.net).0 }
+        ensures wrote { Wrote self.old self.new (xor_net a b self.old.net).0 }
+        ensures output { result ≡ (xor_net a b self.old.net).1 }
     {
         match fold_xor(a, b) {
             Folded::Wire(wire) => wire,
@@ -220,9 +220,9 @@ impl Builder<'_> {
 
     // At least two of a, b and c.
     pub fn majority(&mut self, a: Literal, b: Literal, c: Literal) -> Literal
-        requires { Fits self.old (majority_n a b c self.old.net).0 }
-        ensures wrote { Wrote self.old self.new (majority_n a b c self.old.net).0 }
-        ensures output { result ≡ (majority_n a b c self.old.net).1 }
+        requires { Fits self.old (majority_net a b c self.old.net).0 }
+        ensures wrote { Wrote self.old self.new (majority_net a b c self.old.net).0 }
+        ensures output { result ≡ (majority_net a b c self.old.net).1 }
     {
         match fold_majority(a, b, c) {
             Folded::Wire(wire) => wire,
@@ -234,9 +234,9 @@ impl Builder<'_> {
 
     // a if s, else b.
     pub fn choice(&mut self, s: Literal, a: Literal, b: Literal) -> Literal
-        requires { Fits self.old (choice_n s a b self.old.net).0 }
-        ensures wrote { Wrote self.old self.new (choice_n s a b self.old.net).0 }
-        ensures output { result ≡ (choice_n s a b self.old.net).1 }
+        requires { Fits self.old (choice_net s a b self.old.net).0 }
+        ensures wrote { Wrote self.old self.new (choice_net s a b self.old.net).0 }
+        ensures output { result ≡ (choice_net s a b self.old.net).1 }
     {
         match fold_choice(s, a, b) {
             Folded::Wire(wire) => wire,

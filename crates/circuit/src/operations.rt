@@ -3,7 +3,7 @@ ghost use Rattle.std.specs.Prelude.{◌≡◌, ◌≤◌, replicate};
 ghost use Rattle.words.specs.declared.BinaryOp.TheVariants.{Mul};
 ghost use Rattle.circuit.specs.Bits.{flag, top_of};
 ghost use Rattle.circuit.specs.Nets.{low};
-ghost use Rattle.circuit.specs.Circuits.{inverted, product_n, unary_n, binary_n};
+ghost use Rattle.circuit.specs.Circuits.{inverted, product_net, unary_net, binary_net};
 ghost use Rattle.circuit.specs.Built.{Fits, Wrote};
 
 use crate::builder::{Builder, HIGH, LOW};
@@ -48,9 +48,9 @@ impl Builder<'_> {
         op: UnaryOp,
         x: &[Literal; WIDTH],
     ) -> [Literal; WIDTH]
-        requires { Fits self.old (unary_n op x.now self.old.net).0 }
-        ensures wrote { Wrote self.old self.new (unary_n op x.now self.old.net).0 }
-        ensures word { result ≡ (unary_n op x.now self.old.net).1 }
+        requires { Fits self.old (unary_net op x.now self.old.net).0 }
+        ensures wrote { Wrote self.old self.new (unary_net op x.now self.old.net).0 }
+        ensures word { result ≡ (unary_net op x.now self.old.net).1 }
     {
         match op {
             UnaryOp::Not => inverted(x),
@@ -68,10 +68,10 @@ impl Builder<'_> {
         carries: &mut [Literal; WIDTH],
     ) -> [Literal; WIDTH]
         requires short { WIDTH ≤ 64 }
-        requires room { Fits self.old (binary_n op x.now y.now self.old.net).0 }
-        ensures wrote { Wrote self.old self.new (binary_n op x.now y.now self.old.net).0 }
-        ensures word { result ≡ (binary_n op x.now y.now self.old.net).1 }
-        ensures carries { op ≡ Mul → carries.new ≡ (product_n x.now y.now self.old.net).1.1 }
+        requires room { Fits self.old (binary_net op x.now y.now self.old.net).0 }
+        ensures wrote { Wrote self.old self.new (binary_net op x.now y.now self.old.net).0 }
+        ensures word { result ≡ (binary_net op x.now y.now self.old.net).1 }
+        ensures carries { op ≡ Mul → carries.new ≡ (product_net x.now y.now self.old.net).1.1 }
     {
         match op {
             BinaryOp::Add => self.add(x, y, LOW).sum,

@@ -1,7 +1,7 @@
 // Shifts by a word: a barrel of stages, each of which moves the word by a power of two or leaves it.
 ghost use Rattle.std.specs.Prelude.{◌≡◌, ◌≤◌, length};
 ghost use Rattle.circuit.specs.Bits.{moved};
-ghost use Rattle.circuit.specs.Circuits.{choose_n, shift_n};
+ghost use Rattle.circuit.specs.Circuits.{choose_net, shift_net};
 ghost use Rattle.circuit.specs.Built.{Fits, Wrote};
 
 use crate::builder::Builder;
@@ -46,9 +46,9 @@ impl Builder<'_> {
         s: Literal,
         x: &[Literal; WIDTH],
     ) -> [Literal; WIDTH]
-        requires { Fits self.old (choose_n s (moved direction incoming places x.now) x.now self.old.net).0 }
-        ensures wrote { Wrote self.old self.new (choose_n s (moved direction incoming places x.now) x.now self.old.net).0 }
-        ensures word { result ≡ (choose_n s (moved direction incoming places x.now) x.now self.old.net).1 }
+        requires { Fits self.old (choose_net s (moved direction incoming places x.now) x.now self.old.net).0 }
+        ensures wrote { Wrote self.old self.new (choose_net s (moved direction incoming places x.now) x.now self.old.net).0 }
+        ensures word { result ≡ (choose_net s (moved direction incoming places x.now) x.now self.old.net).1 }
     {
         let apart = moved(direction, incoming, places, x);
         self.choose(s, &apart, x)
@@ -65,9 +65,9 @@ impl Builder<'_> {
         count: &[Literal],
     ) -> [Literal; WIDTH]
         requires short { WIDTH ≤ 64 }
-        requires room { Fits self.old (shift_n direction incoming (length x.now) 1 x.now count.now self.old.net).0 }
-        ensures wrote { Wrote self.old self.new (shift_n direction incoming (length x.now) 1 x.now count.now self.old.net).0 }
-        ensures word { result ≡ (shift_n direction incoming (length x.now) 1 x.now count.now self.old.net).1 }
+        requires room { Fits self.old (shift_net direction incoming (length x.now) 1 x.now count.now self.old.net).0 }
+        ensures wrote { Wrote self.old self.new (shift_net direction incoming (length x.now) 1 x.now count.now self.old.net).0 }
+        ensures word { result ≡ (shift_net direction incoming (length x.now) 1 x.now count.now self.old.net).1 }
     {
         let mut word = *x;
         let mut places = 1;

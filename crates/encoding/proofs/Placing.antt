@@ -7,7 +7,7 @@ use Rattle.std.proofs.lemmas.Bool.{cases_lt, ltb-true, ltb-false}
 use Rattle.encoding.specs.declared.entry.Entry.{Entry}
 use Rattle.encoding.specs.declared.entry.Entry.TheVariants.{Any, Con, Number, Unary, Binary, Ite, Divide, Part}
 use Rattle.encoding.specs.Table.{same, find, place}
-use Rattle.encoding.specs.Values.{entry_b, is_division, Operand, MadeAt, WellMade}
+use Rattle.encoding.specs.Values.{entry_bits, is_division, Operand, MadeAt, WellMade}
 use Rattle.encoding.proofs.Tables.{words, words_push, word_is_entry}
 
 pub find_at_most : (e : Entry) (t : List Entry) → find e t ≤ length t
@@ -84,7 +84,7 @@ module _ (w : ℕ) (env : ℕ → List Bool) where
     pub made : WellMade w r.0
     pub inside : r.1 < length r.0
     pub entry : get_or r.0 r.1 (Any 0) ≡ e
-    pub word : get_or (words w env r.0) r.1 [] ≡ entry_b w env (words w env t) e
+    pub word : get_or (words w env r.0) r.1 [] ≡ entry_bits w env (words w env t) e
 
   pub placed : (t : List Entry) (e : Entry) → WellMade w t → MadeAt w t (length t) e → Placed t (place e t) e
   placed t e made m = go (ltb (find e t) (length t)) refl
@@ -93,7 +93,7 @@ module _ (w : ℕ) (env : ℕ → List Bool) where
       go true h =
           let l = ltb-true (find e t) (length t) h in
           let q = found e t l in
-          record { rest = []; extends = sym (append-nil t); made = made; inside = l; entry = q; word = word_is_entry w env t made (find e t) l ∙ ap (entry_b w env (words w env t)) q }
+          record { rest = []; extends = sym (append-nil t); made = made; inside = l; entry = q; word = word_is_entry w env t made (find e t) l ∙ ap (entry_bits w env (words w env t)) q }
       go false h =
           let q : find e t ≡ length t = omega (arith, ltb-false (find e t) (length t) h, find_at_most e t) in
           record {

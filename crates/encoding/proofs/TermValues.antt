@@ -9,7 +9,7 @@ use Rattle.words.specs.declared.BinaryOp.TheVariants.{Add, Sub, Mul, Udiv, Urem,
 use Rattle.words.proofs.Laws.{do2_word}
 use Rattle.terms.specs.Terms.{Term, any, con, lit, unary, binary, ite, eval}
 use Rattle.terms.specs.Limits.{ok_term}
-use Rattle.circuit.specs.Bits.{val, mul_b, binary_b, divides}
+use Rattle.circuit.specs.Bits.{val, mul_bits, binary_bits, divides}
 use Rattle.circuit.proofs.Numbers.{val_lt, length_bits_of, val_bits_of}
 use Rattle.circuit.proofs.Products.{length_mul}
 use Rattle.circuit.proofs.OperationValues.{unary_right, binary_right, ite_right}
@@ -18,7 +18,7 @@ use Rattle.encoding.specs.declared.entry.DivisionWord.TheVariants.{Quotient, Rem
 use Rattle.encoding.specs.declared.entry.Entry.{Entry}
 use Rattle.encoding.specs.declared.entry.Entry.TheVariants.{Any, Con, Number, Unary, Binary, Ite, Divide, Part}
 use Rattle.encoding.specs.Table.{place, sorted, by_divider, by_quotient, product, divided, operated, numbered}
-use Rattle.encoding.specs.Values.{order, quotient_b, remainder_b, divide_b, entry_b, is_division, Operand, MadeAt, WellMade}
+use Rattle.encoding.specs.Values.{order, quotient_bits, remainder_bits, divide_bits, entry_bits, is_division, Operand, MadeAt, WellMade}
 use Rattle.encoding.proofs.Commuting.{Commutes, add_commutes, mul_commutes, and_commutes, or_commutes, xor_commutes, comp_commutes}
 use Rattle.encoding.proofs.Placing.{placed, operand_later}
 use Rattle.encoding.proofs.Tables.{words, words_keep, word_is_entry, operand_long}
@@ -36,7 +36,7 @@ module _ (w : ℕ) (pos : 0 < w) (env : ℕ → List Bool) (long : (k : ℕ) →
   at t i = get_or (words w env t) i []
 
   -- an entry that is placed, and no division whole
-  has_entry : (t : List Entry) (e : Entry) (x : ℕ) → WellMade w t → MadeAt w t (length t) e → is_division e ≡ false → val (entry_b w env (words w env t) e) ≡ x → Has t (place e t) x
+  has_entry : (t : List Entry) (e : Entry) (x : ℕ) → WellMade w t → MadeAt w t (length t) e → is_division e ≡ false → val (entry_bits w env (words w env t) e) ≡ x → Has t (place e t) x
   has_entry t e x made m f v =
       let p = placed w env t e made m in
       record { rest = p.rest; extends = p.extends; made = p.made; operand = (p.inside, ap is_division p.entry ∙ f); is = ap val p.word ∙ v }
@@ -52,7 +52,7 @@ module _ (w : ℕ) (pos : 0 < w) (env : ℕ → List Bool) (long : (k : ℕ) →
     same_long : length (at t i) ≡ length (at t j)
     same_long = operand_long w env long t made i oi ∙ sym (operand_long w env long t made j oj)
 
-    binary_value : (o : BinaryOp) → divides o ≡ false → val (binary_b o (at t i) (at t j)) ≡ do2 w o (val (at t i)) (val (at t j))
+    binary_value : (o : BinaryOp) → divides o ≡ false → val (binary_bits o (at t i) (at t j)) ≡ do2 w o (val (at t i)) (val (at t j))
     binary_value o d =
         let l = operand_long w env long t made i oi in
         binary_right o (at t i) (at t j) same_long (omega (arith, l, pos)) d ∙ ap (λ n. do2 n o (val (at t i)) (val (at t j))) l
@@ -85,25 +85,25 @@ module _ (w : ℕ) (pos : 0 < w) (env : ℕ → List Bool) (long : (k : ℕ) →
 
   -- division
   module _ (t : List Entry) (made : WellMade w t) (i j : ℕ) (oi : Operand t (length t) i) (oj : Operand t (length t) j) where
-    quotient_long : length (quotient_b w (at t i) (at t j)) ≡ w
+    quotient_long : length (quotient_bits w (at t i) (at t j)) ≡ w
     quotient_long = length_bits_of w _
 
-    remainder_long : length (remainder_b w (at t i) (at t j)) ≡ w
+    remainder_long : length (remainder_bits w (at t i) (at t j)) ≡ w
     remainder_long = length_bits_of w _
 
-    product_long : length (mul_b (at t j) (quotient_b w (at t i) (at t j))) ≡ w
-    product_long = let l = operand_long w env long t made j oj in length_mul (at t j) (quotient_b w (at t i) (at t j)) (l ∙ sym quotient_long) ∙ l
+    product_long : length (mul_bits (at t j) (quotient_bits w (at t i) (at t j))) ≡ w
+    product_long = let l = operand_long w env long t made j oj in length_mul (at t j) (quotient_bits w (at t i) (at t j)) (l ∙ sym quotient_long) ∙ l
 
     word : (k : ℕ) → Operand t (length t) k → val (at t k) < 2 ^ w
     word k o = subst (λ n. val (at t k) < 2 ^ n) (operand_long w env long t made k o) (val_lt (at t k))
 
-    val_quotient : val (quotient_b w (at t i) (at t j)) ≡ do2 w Udiv (val (at t i)) (val (at t j))
+    val_quotient : val (quotient_bits w (at t i) (at t j)) ≡ do2 w Udiv (val (at t i)) (val (at t j))
     val_quotient = val_bits_of w _ (do2_word w Udiv (val (at t i)) (val (at t j)) pos (word i oi) (word j oj))
 
-    val_remainder : val (remainder_b w (at t i) (at t j)) ≡ do2 w Urem (val (at t i)) (val (at t j))
+    val_remainder : val (remainder_bits w (at t i) (at t j)) ≡ do2 w Urem (val (at t i)) (val (at t j))
     val_remainder = val_bits_of w _ (do2_word w Urem (val (at t i)) (val (at t j)) pos (word i oi) (word j oj))
 
-    has_divided : (p : DivisionWord) (part : List Bool) (x : ℕ) → take w (drop (order p * w) (divide_b w (at t i) (at t j))) ≡ part → val part ≡ x → Has t (divided p i j t) x
+    has_divided : (p : DivisionWord) (part : List Bool) (x : ℕ) → take w (drop (order p * w) (divide_bits w (at t i) (at t j))) ≡ part → val part ≡ x → Has t (divided p i j t) x
     has_divided p part x is v =
         let d = placed w env t (Divide i j) made (oi, oj) in
         let r = place (Divide i j) t in
@@ -111,10 +111,10 @@ module _ (w : ℕ) (pos : 0 < w) (env : ℕ → List Bool) (long : (k : ℕ) →
         (has_entry r.0 (Part r.1 p) x d.made (d.inside, ap is_division d.entry) refl (ap (λ v. val (take w (drop (order p * w) v))) d.word ∙ (ap val is ∙ v)))
 
     has_quotient : Has t (divided Quotient i j t) (do2 w Udiv (val (at t i)) (val (at t j)))
-    has_quotient = has_divided Quotient _ _ (first_part _ (remainder_b w (at t i) (at t j)) _ quotient_long remainder_long product_long) val_quotient
+    has_quotient = has_divided Quotient _ _ (first_part _ (remainder_bits w (at t i) (at t j)) _ quotient_long remainder_long product_long) val_quotient
 
     has_remainder : Has t (divided Remainder i j t) (do2 w Urem (val (at t i)) (val (at t j)))
-    has_remainder = has_divided Remainder _ _ (second_part (quotient_b w (at t i) (at t j)) _ _ quotient_long remainder_long product_long) val_remainder
+    has_remainder = has_divided Remainder _ _ (second_part (quotient_bits w (at t i) (at t j)) _ _ quotient_long remainder_long product_long) val_remainder
 
   -- a product is made by itself, or it is the one of a division
   abbrev ByDivision : List Entry → ℕ → ℕ → Entry → Type 0
@@ -153,12 +153,12 @@ module _ (w : ℕ) (pos : 0 < w) (env : ℕ → List Bool) (long : (k : ℕ) →
         let kin : k < length t = omega (arith, mj.0, oj.0) in
         let mk : MadeAt w t k (Divide x i) = subst (MadeAt w t k) ek (made k kin) in
         let ox : Operand t (length t) x = (omega (arith, mk.0.0, kin), mk.0.1) in
-        let wk : at t k ≡ divide_b w (at t x) (at t i) = word_is_entry w env t made k kin ∙ ap (entry_b w env (words w env t)) ek in
+        let wk : at t k ≡ divide_bits w (at t x) (at t i) = word_is_entry w env t made k kin ∙ ap (entry_bits w env (words w env t)) ek in
         let lq = quotient_long t made x i ox oi in
         let lr = remainder_long t made x i ox oi in
         let lm = product_long t made x i ox oi in
-        let wj : at t j ≡ quotient_b w (at t x) (at t i) = word_is_entry w env t made j oj.0 ∙ (ap (entry_b w env (words w env t)) ej ∙ (ap (λ v. take w (drop (0 * w) v)) wk ∙ first_part _ _ _ lq lr lm)) in
-        let m : take w (drop (2 * w) (at t k)) ≡ mul_b (at t i) (at t j) = ap (λ v. take w (drop (2 * w) v)) wk ∙ (third_part _ _ _ lq lr lm ∙ ap (mul_b (at t i)) (sym wj)) in
+        let wj : at t j ≡ quotient_bits w (at t x) (at t i) = word_is_entry w env t made j oj.0 ∙ (ap (entry_bits w env (words w env t)) ej ∙ (ap (λ v. take w (drop (0 * w) v)) wk ∙ first_part _ _ _ lq lr lm)) in
+        let m : take w (drop (2 * w) (at t k)) ≡ mul_bits (at t i) (at t j) = ap (λ v. take w (drop (2 * w) v)) wk ∙ (third_part _ _ _ lq lr lm ∙ ap (mul_bits (at t i)) (sym wj)) in
         has_entry t (Part k Product) _ made (kin, ap is_division ek) refl (ap val m ∙ binary_value t made i j oi oj Mul refl)
 
     has_ordered : Has t (place (product t i j) t) (do2 w Mul (val (at t i)) (val (at t j)))

@@ -1,6 +1,6 @@
 use Rattle.std.proofs.Common.{◌+◌, [], ◌∷◌, drop, ◌∙◌}
 use Rattle.circuit.specs.Nets.{said}
-use Rattle.circuit.specs.Circuits.{denied_n}
+use Rattle.circuit.specs.Circuits.{denied_net}
 use Rattle.circuit.proofs.Circuits.{denied_grows}
 use Rattle.circuit.proofs.Writing.{wrote_here}
 use Rattle.circuit.proofs.Loops.{loop_fits, net_more}
@@ -11,4 +11,4 @@ pub clause-requires : goal.clause-requires
 clause-requires c = loop_fits c.loop-bit.invariant.0 (c.loop-bit.invariant.1 ∙ denied_more c.args.x.now c.loop-bit.bit-index c.negated.result c.loop-bit.self.net c.loop-bit-test.true c.negated.ensures.value) (denied_grows (drop (c.loop-bit.bit-index + 1) c.args.x.now) (said (c.negated.result ∷ []) c.loop-bit.self.net)) c.requires
 
 pub loop-bit-preserved : goal.loop-bit-preserved
-loop-bit-preserved c = (wrote_here c.loop-bit.invariant.0 c.clause.ensures, net_more (denied_n (drop (c.loop-bit.bit-index + 1) c.args.x.now)) (said (c.negated.result ∷ []) c.loop-bit.self.net) (c.loop-bit.invariant.1 ∙ denied_more c.args.x.now c.loop-bit.bit-index c.negated.result c.loop-bit.self.net c.loop-bit-test.true c.negated.ensures.value) c.clause.ensures)
+loop-bit-preserved c = (wrote_here c.loop-bit.invariant.0 c.clause.ensures, net_more (denied_net (drop (c.loop-bit.bit-index + 1) c.args.x.now)) (said (c.negated.result ∷ []) c.loop-bit.self.net) (c.loop-bit.invariant.1 ∙ denied_more c.args.x.now c.loop-bit.bit-index c.negated.result c.loop-bit.self.net c.loop-bit-test.true c.negated.ensures.value) c.clause.ensures)

@@ -1,7 +1,7 @@
 use Rattle.std.proofs.Common.{[], ◌∷◌, length, refl, ap, ◌∙◌, arith}
 use Rattle.clauses.specs.Literals.{negated}
 use Rattle.circuit.specs.Nets.{said}
-use Rattle.circuit.specs.Circuits.{equated_n}
+use Rattle.circuit.specs.Circuits.{equated_net}
 use Rattle.circuit.proofs.Growing.{grows_then, said_grows}
 use Rattle.circuit.proofs.Circuits.{equated_grows}
 use Rattle.circuit.proofs.Writing.{wrote_here, fits_next, wrote_next}
@@ -30,6 +30,6 @@ loop-a-preserved g c =
     let more = equated_next c.negated.result c.negated-in-loop-a.result c.loop-a.self.net c.in-Some.ensures.steps c.negated.ensures.value c.negated-in-loop-a.ensures.value in
     let wrote = wrote_next (said (c.in-Some.a.now ∷ c.negated-in-loop-a.result ∷ [])) c.clause.ensures c.clause-in-loop-a.ensures in (
       wrote_here c.loop-a.invariant.0 wrote,
-      net_more (equated_n c.next.new.self.a.rest.now c.next.new.self.b.rest.now) second (c.loop-a.invariant.1 ∙ more) wrote,
+      net_more (equated_net c.next.new.self.a.rest.now c.next.new.self.b.rest.now) second (c.loop-a.invariant.1 ∙ more) wrote,
       omega (arith, c.loop-a.invariant.2, ap length c.in-Some.ensures.steps.0, ap length c.in-Some.ensures.steps.1),
     )

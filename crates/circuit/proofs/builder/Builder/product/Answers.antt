@@ -1,5 +1,5 @@
 use Rattle.std.proofs.Common.{◌-◌, sym, ◌∙◌, refl, subst, arith, length-set, length-drop, length-take, length-append}
-use Rattle.circuit.specs.Circuits.{product_n}
+use Rattle.circuit.specs.Circuits.{product_net}
 use Rattle.circuit.proofs.Growing.{Grows}
 use Rattle.circuit.proofs.Writing.{wrote_here}
 use Rattle.circuit.proofs.Loops.{loop_fits}
@@ -13,7 +13,7 @@ product_row-requires g c =
     record {
       some = simp length-take (omega arith);
       operand = simp (length-take, length-drop) (omega arith);
-      room = loop_fits c.loop-i.invariant.0 refl (subst (λ r. Grows r.0 (product_n c.args.x.now c.args.y.now c.args.self.now.net).0) is grow) c.requires;
+      room = loop_fits c.loop-i.invariant.0 refl (subst (λ r. Grows r.0 (product_net c.args.x.now c.args.y.now c.args.self.now.net).0) is grow) c.requires;
     }
 
 pub loop-i-preserved : goal.loop-i-preserved
