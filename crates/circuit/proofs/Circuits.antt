@@ -1,9 +1,9 @@
 -- Each circuit's net grows.
-use Rattle.std.proofs.Common.{ℕ, ◌+◌, true, false, cond, ltb, List, [], ◌∷◌}
+use Rattle.std.proofs.Common.{Option, Some, None, ℕ, ◌+◌, true, false, cond, ltb, List, [], ◌∷◌}
 use Rattle.circuit.specs.declared.shifting.Direction.{Direction}
 use Rattle.clauses.specs.declared.literal.Literal.{Literal}
 use Rattle.circuit.specs.declared.gates.Folded.{Folded}
-use Rattle.circuit.specs.declared.gates.Folded.TheVariants.{Wire, And, Or, Gate}
+use Rattle.circuit.specs.declared.gates.Folded.TheVariants.{Wire, And, Or}
 use Rattle.circuit.specs.declared.gates.Bitwise.{Bitwise}
 use Rattle.circuit.specs.declared.gates.Bitwise.TheVariants.{Conjunction, Disjunction, Exclusive}
 use Rattle.circuit.specs.Bits.{fill, lower, top, moved}
@@ -17,11 +17,9 @@ use Rattle.circuit.proofs.Growing.{Grows, grows_same, grows_then, said_grows, ta
 pub gate_grows : (rows : Literal → List (List Literal)) (n : Net) → Grows n (gate rows n).0
 gate_grows rows n = grows_then (taken_grows n) (said_all_grows (rows (fresh n)) (taken n))
 
-wire_grows : (f : Folded) (g : Net × Literal) (n : Net) → Grows n g.0 → Grows n (wire_or f g n).0
-wire_grows (Wire l) g n h = grows_same n
-wire_grows (And x y) g n h = h
-wire_grows (Or x y) g n h = h
-wire_grows Gate g n h = h
+wire_grows : (f : Option Literal) (g : Net × Literal) (n : Net) → Grows n g.0 → Grows n (wire_or f g n).0
+wire_grows (Some l) g n h = grows_same n
+wire_grows None g n h = h
 
 pub and_grows : (a b : Literal) (n : Net) → Grows n (and_net a b n).0
 and_grows a b n = wire_grows (fold_and a b) (gate (λ o. and_rows o a b) n) n (gate_grows (λ o. and_rows o a b) n)
@@ -32,11 +30,11 @@ or_grows a b n = and_grows (negated a) (negated b) n
 pub xor_grows : (a b : Literal) (n : Net) → Grows n (xor_net a b n).0
 xor_grows a b n = wire_grows (fold_xor a b) (gate (λ o. xor_rows o a b) n) n (gate_grows (λ o. xor_rows o a b) n)
 
-smaller_grows : (f : Folded) (g : Net × Literal) (n : Net) → Grows n g.0 → Grows n (smaller_or f g n).0
-smaller_grows (Wire l) g n h = grows_same n
-smaller_grows (And x y) g n h = and_grows x y n
-smaller_grows (Or x y) g n h = or_grows x y n
-smaller_grows Gate g n h = h
+smaller_grows : (f : Option Folded) (g : Net × Literal) (n : Net) → Grows n g.0 → Grows n (smaller_or f g n).0
+smaller_grows (Some (Wire l)) g n h = grows_same n
+smaller_grows (Some (And x y)) g n h = and_grows x y n
+smaller_grows (Some (Or x y)) g n h = or_grows x y n
+smaller_grows None g n h = h
 
 pub majority_grows : (a b c : Literal) (n : Net) → Grows n (majority_net a b c n).0
 majority_grows a b c n = smaller_grows (fold_majority a b c) (gate (λ o. majority_rows o a b c) n) n (gate_grows (λ o. majority_rows o a b c) n)

@@ -1,5 +1,5 @@
 -- Each gate makes a literal that carries its operation, whether that is a new variable or a literal in place of one.
-use Rattle.std.proofs.Common.{◌≡◌, ℕ, suc, Bool, true, false, cond, not, ◌&&◌, ◌||◌, List, sym, refl, ap, ◌∙◌, ap₂, arith}
+use Rattle.std.proofs.Common.{Option, ◌≡◌, ℕ, suc, Bool, true, false, cond, not, ◌&&◌, ◌||◌, List, sym, refl, ap, ◌∙◌, ap₂, arith}
 use mathlib.Core.Bool.{and-true, and_self, and-false, not-and_self}
 use Rattle.std.proofs.lemmas.Bool.{eqb-true, and_parts}
 use Rattle.words.specs.Words.{xor}
@@ -108,7 +108,7 @@ module _ {n : Net} (w : Whole n) where
 
     pub and_makes : Makes n (and_net a b n) (λ s. f s && g s)
     and_makes =
-        let P : Folded → Type 0 = λ k. Makes n (wire_or k (gate (λ o. and_rows o a b) n) n) (λ s. f s && g s) in
+        let P : Option Literal → Type 0 = λ k. Makes n (wire_or k (gate (λ o. and_rows o a b) n) n) (λ s. f s && g s) in
         by_test P (same a low) (λ e. wire (carries_low w) (λ s k. rw (same_carries ca (carries_low w) e s k)))
         (by_test P (same b low) (λ e. wire (carries_low w) (λ s k. rw (same_carries cb (carries_low w) e s k) (sym (and-false (f s)))))
         (by_test P (same a high) (λ e. wire cb (λ s k. rw (same_carries ca (carries_high w) e s k)))
@@ -119,7 +119,7 @@ module _ {n : Net} (w : Whole n) where
 
     pub xor_makes : Makes n (xor_net a b n) (λ s. xor (f s) (g s))
     xor_makes =
-        let P : Folded → Type 0 = λ k. Makes n (wire_or k (gate (λ o. xor_rows o a b) n) n) (λ s. xor (f s) (g s)) in
+        let P : Option Literal → Type 0 = λ k. Makes n (wire_or k (gate (λ o. xor_rows o a b) n) n) (λ s. xor (f s) (g s)) in
         by_test P (same a low) (λ e. wire cb (λ s k. rw (same_carries ca (carries_low w) e s k)))
         (by_test P (same b low) (λ e. wire ca (λ s k. rw (same_carries cb (carries_low w) e s k) (at_all (λ x _ _ _. x) (λ x _ _ _. xor x false) refl (f s) true true true)))
         (by_test P (same a high) (λ e. wire (carries_negated cb) (λ s k. rw (same_carries ca (carries_high w) e s k)))
@@ -161,7 +161,7 @@ module _ {n : Net} (w : Whole n) where
 
     pub majority_makes : Makes n (majority_net a b c n) (λ s. maj (f s) (g s) (h s))
     majority_makes =
-        let P : Folded → Type 0 = λ k. Makes n (smaller_or k (gate (λ o. majority_rows o a b c) n) n) (λ s. maj (f s) (g s) (h s)) in
+        let P : Option Folded → Type 0 = λ k. Makes n (smaller_or k (gate (λ o. majority_rows o a b c) n) n) (λ s. maj (f s) (g s) (h s)) in
         by_test P (same a low) (λ e. makes_as w (λ s k. rw (same_carries ca (carries_low w) e s k)) (and_makes cb cc))
         (by_test P (same a high) (λ e. makes_as w (λ s k. rw (same_carries ca (carries_high w) e s k)) (or_makes cb cc))
         (by_test P (same b low) (λ e. makes_as w (λ s k. rw (same_carries cb (carries_low w) e s k) (at_all (λ x y _ _. x && y) (λ x y _ _. maj x false y) refl (f s) (h s) true true)) (and_makes ca cc))
@@ -174,7 +174,7 @@ module _ {n : Net} (w : Whole n) where
 
     pub choice_makes : Makes n (choice_net a b c n) (λ s. cond (f s) (g s) (h s))
     choice_makes =
-        let P : Folded → Type 0 = λ k. Makes n (smaller_or k (gate (λ o. choice_rows o a b c) n) n) (λ s. cond (f s) (g s) (h s)) in
+        let P : Option Folded → Type 0 = λ k. Makes n (smaller_or k (gate (λ o. choice_rows o a b c) n) n) (λ s. cond (f s) (g s) (h s)) in
         by_test P (same a high) (λ e. wire cb (λ s k. rw (same_carries ca (carries_high w) e s k)))
         (by_test P (same a low) (λ e. wire cc (λ s k. rw (same_carries ca (carries_low w) e s k)))
         (by_test P (same b c) (λ e. wire cb (λ s k. rw (same_carries cb cc e s k) (at_all (λ x y _ _. y) (λ x y _ _. cond x y y) refl (f s) (h s) true true)))

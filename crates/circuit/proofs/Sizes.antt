@@ -1,5 +1,5 @@
 -- How many numbers and variables each circuit takes, for words of so many bits.
-use Rattle.std.proofs.Common.{◌≡◌, ℕ, zero, suc, ◌+◌, ◌*◌, ◌^◌, ◌≤◌, Bool, true, false, cond, ltb, List, [], ◌∷◌, length, sym, refl, ap, ◌∙◌, subst, mul_assoc, suc-mul, add-mul, mul-le-mul_left, pow-suc, mul-one, mul-suc, arith}
+use Rattle.std.proofs.Common.{Option, Some, None, ◌≡◌, ℕ, zero, suc, ◌+◌, ◌*◌, ◌^◌, ◌≤◌, Bool, true, false, cond, ltb, List, [], ◌∷◌, length, sym, refl, ap, ◌∙◌, subst, mul_assoc, suc-mul, add-mul, mul-le-mul_left, pow-suc, mul-one, mul-suc, arith}
 use Rattle.circuit.specs.declared.shifting.Direction.{Direction}
 use Rattle.circuit.specs.declared.shifting.Direction.TheVariants.{Left, Right}
 use Rattle.std.proofs.lemmas.List.{length-append}
@@ -16,7 +16,7 @@ use Rattle.clauses.specs.declared.literal.Literal.{Literal}
 use Rattle.circuit.specs.declared.gates.Bitwise.{Bitwise}
 use Rattle.circuit.specs.declared.gates.Bitwise.TheVariants.{Conjunction, Disjunction, Exclusive}
 use Rattle.circuit.specs.declared.gates.Folded.{Folded}
-use Rattle.circuit.specs.declared.gates.Folded.TheVariants.{Wire, And as AndF, Or as OrF, Gate}
+use Rattle.circuit.specs.declared.gates.Folded.TheVariants.{Wire, And as AndF, Or as OrF}
 use Rattle.circuit.specs.Bits.{fill, lower, top, top_of, topped, moved}
 use Rattle.clauses.specs.Literals.{negated}
 use Rattle.circuit.specs.Nets.{Net, high, low, clause, said, said_all, fresh, taken, wires, free}
@@ -53,11 +53,9 @@ gate_grows : (rows : Literal → List (List Literal)) (n : Net) → Grows n (gat
 gate_grows rows n = let r = all_grow (rows (fresh n)) (taken n) in record { written = omega (arith, r.written); made = omega (arith, r.made) }
 
 -- gates
-wire_grows : (f : Folded) (g : Net × Literal) (n : Net) (a v : ℕ) → Grows n g.0 a v → Grows n (wire_or f g n).0 a v
-wire_grows (Wire l) g n a v h = grows_none n a v
-wire_grows (AndF x y) g n a v h = h
-wire_grows (OrF x y) g n a v h = h
-wire_grows Gate g n a v h = h
+wire_grows : (f : Option Literal) (g : Net × Literal) (n : Net) (a v : ℕ) → Grows n g.0 a v → Grows n (wire_or f g n).0 a v
+wire_grows (Some l) g n a v h = grows_none n a v
+wire_grows None g n a v h = h
 
 pub and_grows : (a b : Literal) (n : Net) → Grows n (and_net a b n).0 10 1
 and_grows a b n = wire_grows (fold_and a b) _ n 10 1 (gate_grows (λ o. and_rows o a b) n)
@@ -68,11 +66,11 @@ or_grows a b n = and_grows (negated a) (negated b) n
 pub xor_grows : (a b : Literal) (n : Net) → Grows n (xor_net a b n).0 16 1
 xor_grows a b n = wire_grows (fold_xor a b) _ n 16 1 (gate_grows (λ o. xor_rows o a b) n)
 
-smaller_grows : (f : Folded) (g : Net × Literal) (n : Net) (a : ℕ) → 10 ≤ a → Grows n g.0 a 1 → Grows n (smaller_or f g n).0 a 1
-smaller_grows (Wire l) g n a k h = grows_none n a 1
-smaller_grows (AndF x y) g n a k h = grows_most n _ 10 1 a 1 k (omega arith) (and_grows x y n)
-smaller_grows (OrF x y) g n a k h = grows_most n _ 10 1 a 1 k (omega arith) (or_grows x y n)
-smaller_grows Gate g n a k h = h
+smaller_grows : (f : Option Folded) (g : Net × Literal) (n : Net) (a : ℕ) → 10 ≤ a → Grows n g.0 a 1 → Grows n (smaller_or f g n).0 a 1
+smaller_grows (Some (Wire l)) g n a k h = grows_none n a 1
+smaller_grows (Some (AndF x y)) g n a k h = grows_most n _ 10 1 a 1 k (omega arith) (and_grows x y n)
+smaller_grows (Some (OrF x y)) g n a k h = grows_most n _ 10 1 a 1 k (omega arith) (or_grows x y n)
+smaller_grows None g n a k h = h
 
 pub majority_grows : (a b c : Literal) (n : Net) → Grows n (majority_net a b c n).0 24 1
 majority_grows a b c n = smaller_grows (fold_majority a b c) _ n 24 (omega arith) (gate_grows (λ o. majority_rows o a b c) n)

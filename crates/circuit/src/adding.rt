@@ -39,6 +39,7 @@ impl Builder<'_> {
         ensures sum { result.sum ≡ (add_net x.now y.now carry self.old.net).1.0 }
         ensures over { result.carry ≡ (add_net x.now y.now carry self.old.net).1.1 }
     {
+        // written by its place: a proof knows nothing of what is written through a zip
         let mut sum = [LOW; WIDTH];
         let mut over = carry;
         for (i, (a, b)) in x.iter().zip(y).enumerate() {

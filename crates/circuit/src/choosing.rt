@@ -7,6 +7,7 @@ use crate::builder::{Builder, LOW};
 use crate::gates::Bitwise;
 use clauses::Literal;
 
+// A word that is made is written by its place: a proof knows nothing of what is written through a zip.
 impl Builder<'_> {
     // The gate of one place. It is data and no closure, since the definitions of nets speak of it by name.
     fn bit(&mut self, op: Bitwise, a: Literal, b: Literal) -> Literal

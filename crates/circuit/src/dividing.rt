@@ -8,6 +8,8 @@ ghost use Rattle.circuit.specs.Built.{Fits, Wrote};
 use crate::builder::{Builder, LOW};
 use clauses::Literal;
 
+// Each kind of clause has a loop of its own: one loop would take the clause as a closure, of which the
+// definition of its net would have to speak.
 impl Builder<'_> {
     // x has no 1.
     fn deny(&mut self, x: &[Literal])

@@ -7,13 +7,12 @@ ghost use Rattle.circuit.specs.Built.{Fits, Wrote};
 use crate::builder::{Builder, HIGH, LOW};
 use clauses::Literal;
 
-// What stands in place of a gate: a literal, a smaller gate, or nothing but the gate itself.
+// What stands in place of a gate: a literal, or a smaller gate.
 #[derive(Clone, Copy)]
 pub enum Folded {
     Wire(Literal),
     And(Literal, Literal),
     Or(Literal, Literal),
-    Gate,
 }
 
 // The gates that work on two words bit by bit.
@@ -25,92 +24,92 @@ pub enum Bitwise {
 }
 
 // What is left of a conjunction.
-fn fold_and(a: Literal, b: Literal) -> Folded
+fn fold_and(a: Literal, b: Literal) -> Option<Literal>
     ensures { result ≡ fold_and a b }
 {
     if a == LOW {
-        Folded::Wire(LOW)
+        Some(LOW)
     } else if b == LOW {
-        Folded::Wire(LOW)
+        Some(LOW)
     } else if a == HIGH {
-        Folded::Wire(b)
+        Some(b)
     } else if b == HIGH {
-        Folded::Wire(a)
+        Some(a)
     } else if a == b {
-        Folded::Wire(a)
+        Some(a)
     } else if a == b.negated() {
-        Folded::Wire(LOW)
+        Some(LOW)
     } else {
-        Folded::Gate
+        None
     }
 }
 
 // What is left of an exclusive disjunction.
-fn fold_xor(a: Literal, b: Literal) -> Folded
+fn fold_xor(a: Literal, b: Literal) -> Option<Literal>
     ensures { result ≡ fold_xor a b }
 {
     if a == LOW {
-        Folded::Wire(b)
+        Some(b)
     } else if b == LOW {
-        Folded::Wire(a)
+        Some(a)
     } else if a == HIGH {
-        Folded::Wire(b.negated())
+        Some(b.negated())
     } else if b == HIGH {
-        Folded::Wire(a.negated())
+        Some(a.negated())
     } else if a == b {
-        Folded::Wire(LOW)
+        Some(LOW)
     } else if a == b.negated() {
-        Folded::Wire(HIGH)
+        Some(HIGH)
     } else {
-        Folded::Gate
+        None
     }
 }
 
 // What is left of a majority. With one constant input it is a gate of the other two.
-fn fold_majority(a: Literal, b: Literal, c: Literal) -> Folded
+fn fold_majority(a: Literal, b: Literal, c: Literal) -> Option<Folded>
     ensures { result ≡ fold_majority a b c }
 {
     if a == LOW {
-        Folded::And(b, c)
+        Some(Folded::And(b, c))
     } else if a == HIGH {
-        Folded::Or(b, c)
+        Some(Folded::Or(b, c))
     } else if b == LOW {
-        Folded::And(a, c)
+        Some(Folded::And(a, c))
     } else if b == HIGH {
-        Folded::Or(a, c)
+        Some(Folded::Or(a, c))
     } else if c == LOW {
-        Folded::And(a, b)
+        Some(Folded::And(a, b))
     } else if c == HIGH {
-        Folded::Or(a, b)
+        Some(Folded::Or(a, b))
     } else if a == b {
-        Folded::Wire(a)
+        Some(Folded::Wire(a))
     } else if a == b.negated() {
-        Folded::Wire(c)
+        Some(Folded::Wire(c))
     } else {
-        Folded::Gate
+        None
     }
 }
 
 // What is left of a choice of a if s, else b.
-fn fold_choice(s: Literal, a: Literal, b: Literal) -> Folded
+fn fold_choice(s: Literal, a: Literal, b: Literal) -> Option<Folded>
     ensures { result ≡ fold_choice s a b }
 {
     if s == HIGH {
-        Folded::Wire(a)
+        Some(Folded::Wire(a))
     } else if s == LOW {
-        Folded::Wire(b)
+        Some(Folded::Wire(b))
     } else if a == b {
-        Folded::Wire(a)
+        Some(Folded::Wire(a))
     } else if a == HIGH {
-        Folded::Or(s, b)
+        Some(Folded::Or(s, b))
     } else if a == LOW {
-        Folded::And(s.negated(), b)
+        Some(Folded::And(s.negated(), b))
     } else if b == HIGH {
-        Folded::Or(s.negated(), a)
+        Some(Folded::Or(s.negated(), a))
     } else if b == LOW {
-        Folded::And(s, a)
+        Some(Folded::And(s, a))
     } else {
-        Folded::Gate
+        None
     }
 }
 
@@ -189,8 +188,8 @@ impl Builder<'_> {
         ensures output { result ≡ (and_net a b self.old.net).1 }
     {
         match fold_and(a, b) {
-            Folded::Wire(wire) => wire,
-            Folded::And(_, _) | Folded::Or(_, _) | Folded::Gate => self.and_gate(a, b),
+            Some(wire) => wire,
+            None => self.and_gate(a, b),
         }
     }
 
@@ -213,8 +212,8 @@ impl Builder<'_> {
         ensures output { result ≡ (xor_net a b self.old.net).1 }
     {
         match fold_xor(a, b) {
-            Folded::Wire(wire) => wire,
-            Folded::And(_, _) | Folded::Or(_, _) | Folded::Gate => self.xor_gate(a, b),
+            Some(wire) => wire,
+            None => self.xor_gate(a, b),
         }
     }
 
@@ -225,10 +224,10 @@ impl Builder<'_> {
         ensures output { result ≡ (majority_net a b c self.old.net).1 }
     {
         match fold_majority(a, b, c) {
-            Folded::Wire(wire) => wire,
-            Folded::And(x, y) => self.and(x, y),
-            Folded::Or(x, y) => self.or(x, y),
-            Folded::Gate => self.majority_gate(a, b, c),
+            Some(Folded::Wire(wire)) => wire,
+            Some(Folded::And(x, y)) => self.and(x, y),
+            Some(Folded::Or(x, y)) => self.or(x, y),
+            None => self.majority_gate(a, b, c),
         }
     }
 
@@ -239,10 +238,10 @@ impl Builder<'_> {
         ensures output { result ≡ (choice_net s a b self.old.net).1 }
     {
         match fold_choice(s, a, b) {
-            Folded::Wire(wire) => wire,
-            Folded::And(x, y) => self.and(x, y),
-            Folded::Or(x, y) => self.or(x, y),
-            Folded::Gate => self.choice_gate(s, a, b),
+            Some(Folded::Wire(wire)) => wire,
+            Some(Folded::And(x, y)) => self.and(x, y),
+            Some(Folded::Or(x, y)) => self.or(x, y),
+            None => self.choice_gate(s, a, b),
         }
     }
 }
