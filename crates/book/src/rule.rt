@@ -37,7 +37,7 @@ fn read_header(text: &[u8], at: usize) -> Result<Header, Fault>
         });
     };
     let bits = read_number(text, word.end)?;
-    let Some(width) = Width::from_bits(bits.value) else {
+    let Ok(width) = Width::try_from(bits.value) else {
         return Err(Fault {
             at: bits.start,
             reason: Reason::WidthExpected,

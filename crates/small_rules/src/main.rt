@@ -27,9 +27,8 @@ fn try_rules(alloc: Global, text: &[u8], rules: usize) -> Result<Vec<Verdict>, A
     let mut verdicts = Vec::new(alloc);
     let mut at = 0;
     for _rule in 0..rules {
-        let read = match read_rule(text, at) {
-            Ok(read) => read,
-            Err(_) => unreachable(),
+        let Ok(read) = read_rule(text, at) else {
+            unreachable!()
         };
         verdicts.push(holds_by_trying(&read.rule))?;
         at = read.end;

@@ -5,7 +5,7 @@ ghost use Rattle.small_rules.specs.Marks.{Marked, named, mark_any, mark_con};
 use terms::{Node, RuleNodes};
 
 // Whether any i stands in a rule, and whether con i does.
-#[derive(Clone, Copy)]
+#[derive(Clone, Copy, Default)]
 pub(crate) struct Names {
     pub(crate) any: [bool; 16],
     pub(crate) con: [bool; 16],
@@ -36,10 +36,7 @@ impl Names {
     pub(crate) fn of(rule: &RuleNodes) -> Names
         ensures { Marked rule.now.nodes.items (length rule.now.nodes.items) result.any result.con }
     {
-        let mut names = Names {
-            any: [false; 16],
-            con: [false; 16],
-        };
+        let mut names = Names::default();
         for node in rule.nodes.as_slice() {
             names = names.with(*node);
         }

@@ -7,7 +7,7 @@ ghost use Rattle.small_rules.specs.Odometer.{Turned, Advanced};
 ghost use Rattle.small_rules.specs.Verdicts.{Right};
 
 use crate::names::Names;
-use terms::{Assignment, RuleNodes, fails_at};
+use terms::{Assignment, RuleNodes, fails_at_with_room};
 use words::Width;
 
 // What trying says of a rule: that no values make it fail, or the first values of its names that do,
@@ -59,8 +59,9 @@ pub(crate) fn holds_by_trying(rule: &RuleNodes) -> Verdict
         any: [0; 16],
         con: [0; 16],
     };
+    let mut values = [0; 102];
     for _ in 0..u64::MAX {
-        if fails_at(rule, &assignment) {
+        if fails_at_with_room(rule, &assignment, &mut values) {
             return Verdict::Fails(assignment);
         }
         if !advance(&names, &mut assignment) {

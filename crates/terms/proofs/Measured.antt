@@ -43,17 +43,17 @@ union_push : (f : Term → ℕ) (es : List Term) (e : Term) → union f (es ++ e
 union_push f [] e = or_zero_r (f e)
 union_push f (x ∷ es) e = ap (bit_or (f x)) (union_push f es e) ∙ sym (or_assoc (f x) (union f es) (f e))
 
-load_push : (w : ℕ) (es : List Term) (e : Term) → load_all w (es ++ e ∷ []) ≡ load_all w es + load w e
-load_push w [] e = omega arith
-load_push w (x ∷ es) e = omega (arith, load_push w es e)
+load_all_append : (w : ℕ) (es fs : List Term) → load_all w (es ++ fs) ≡ load_all w es + load_all w fs
+load_all_append w [] fs = omega arith
+load_all_append w (e ∷ es) fs = omega (arith, load_all_append w es fs)
 
-ops_push : (es : List Term) (e : Term) → ops_all (es ++ e ∷ []) ≡ ops_all es + ops e
-ops_push [] e = omega arith
-ops_push (x ∷ es) e = omega (arith, ops_push es e)
+pub ops_all_append : (es fs : List Term) → ops_all (es ++ fs) ≡ ops_all es + ops_all fs
+ops_all_append [] fs = omega arith
+ops_all_append (e ∷ es) fs = omega (arith, ops_all_append es fs)
 
 -- one more term
 pub measure_push : (w : ℕ) (es : List Term) (e : Term) → together (measure_all w es) (measure_of w e) ≡ measure_all w (es ++ e ∷ [])
-measure_push w es e = same_measure _ _ _ _ _ _ _ _ (omega (arith, load_push w es e)) (omega (arith, ops_push es e)) (sym (union_push any_set es e)) (sym (union_push con_set es e))
+measure_push w es e = same_measure _ _ _ _ _ _ _ _ (omega (arith, load_all_append w es (e ∷ []))) (omega (arith, ops_all_append es (e ∷ []))) (sym (union_push any_set es e)) (sym (union_push con_set es e))
 
 -- the measure of a node is that of its term, where those of the nodes before it are
 pub node_measure_lem : (w : ℕ) (ns : List Node) (ms : List Measure) (i : ℕ) (e : Term) → w < 65 → ((j : ℕ) (f : Term) → j < i → Stands ns j f → get_or ms j nothing ≡ measure_of w f) → Stands ns i e → node_measure w ms (get_or ns i (Any 0)) ≡ measure_of w e

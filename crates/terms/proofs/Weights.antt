@@ -1,5 +1,5 @@
 -- The weight of a rule within the limits is far below 2 ^ 64.
-use Rattle.std.proofs.Common.{◌≡◌, ℕ, ◌+◌, ◌*◌, ◌^◌, ◌<◌, ◌≤◌, true, ◌&&◌, leb, List, [], ◌∷◌, ◌++◌, length, arith}
+use Rattle.std.proofs.Common.{◌≡◌, ℕ, ◌+◌, ◌*◌, ◌^◌, ◌<◌, ◌≤◌, true, ◌&&◌, leb, List, [], ◌∷◌, length, arith}
 use Rattle.std.proofs.lemmas.Nat.{mul-le}
 use Rattle.std.proofs.lemmas.Bool.{and_parts, leb-true}
 use Rattle.words.specs.declared.BinaryOp.{BinaryOp}
@@ -8,7 +8,7 @@ use Rattle.words.specs.Words.{bits}
 use Rattle.terms.specs.Terms.{Term, any, con, lit, unary, binary, ite, Rule, terms, ops, ops_all, load2, load, load_all, weight}
 use Rattle.terms.specs.Limits.{ok_terms, ok_rule}
 use Rattle.terms.specs.Measures.{measure_rule, together}
-use Rattle.terms.proofs.Measured.{bits_small}
+use Rattle.terms.proofs.Measured.{bits_small, ops_all_append}
 
 square_le : (w : ℕ) → w < 65 → w * w ≤ 4096
 square_le w h = mul-le w w 64 64 (omega arith) (omega arith)
@@ -41,10 +41,6 @@ load_le w (ite t x y) h = omega (arith, load_le w t h, load_le w x h, load_le w 
 load_all_le : (w : ℕ) (es : List Term) → w < 65 → load_all w es ≤ 131200 * ops_all es + 64 * length es
 load_all_le w [] h = omega arith
 load_all_le w (e ∷ es) h = omega (arith, load_le w e h, load_all_le w es h)
-
-ops_all_append : (xs ys : List Term) → ops_all (xs ++ ys) ≡ ops_all xs + ops_all ys
-ops_all_append [] ys = omega arith
-ops_all_append (x ∷ xs) ys = omega (arith, ops_all_append xs ys)
 
 pub few_needs : (r : Rule) → ok_rule r ≡ true → length r.needs ≤ 4
 few_needs r ok = leb-true (length r.needs) 4 (and_parts (leb (length r.needs) 4) _ ok).0

@@ -48,16 +48,28 @@ fn all_met(needed: &[usize], values: &[u64; 102]) -> bool
     needed.iter().all(|root| values[*root] != 0)
 }
 
-// Whether the rule fails at these values: each needed term is other than 0, and the sides differ. The
-// nodes represent no rule before they have the roots of both sides.
+// Whether the rule fails at these values: each needed term is other than 0, and the sides differ.
 pub fn fails_at(rule: &RuleNodes, assignment: &Assignment) -> bool
+    requires { assignment.now.width ≡ rule.now.width }
+    ensures { (r : Rule) → Represents rule.now r → Decides result (Fails r (λ k. slice_index assignment.now.any k) (λ k. slice_index assignment.now.con k)) }
+{
+    let mut values = [0; 102];
+    fails_at_with_room(rule, assignment, &mut values)
+}
+
+// The same, with room for the values of the nodes, so that a caller who tries many assignments clears
+// none of it. The nodes represent no rule before they have the roots of both sides.
+pub fn fails_at_with_room(
+    rule: &RuleNodes,
+    assignment: &Assignment,
+    values: &mut [u64; 102],
+) -> bool
     requires { assignment.now.width ≡ rule.now.width }
     ensures { (r : Rule) → Represents rule.now r → Decides result (Fails r (λ k. slice_index assignment.now.any k) (λ k. slice_index assignment.now.con k)) }
 {
     let [needed @ .., from, to] = rule.roots.as_slice() else {
         return false;
     };
-    let mut values = [0; 102];
-    evaluate(rule, assignment, &mut values);
-    all_met(needed, &values) && values[*from] != values[*to]
+    evaluate(rule, assignment, values);
+    all_met(needed, values) && values[*from] != values[*to]
 }

@@ -9,7 +9,7 @@ mod rule;
 mod usability;
 
 pub use assignment::Assignment;
-pub use evaluation::{evaluate, fails_at};
+pub use evaluation::{evaluate, fails_at, fails_at_with_room};
 pub use node::Node;
 pub use rule::RuleNodes;
 pub use usability::{usable, weight};

@@ -1,11 +1,9 @@
 -- Laws of words that hold at every width.
-use Rattle.std.proofs.Common.{◌≡◌, ℕ, zero, suc, ◌+◌, ◌-◌, ◌*◌, ◌/◌, ◌%◌, ◌^◌, ◌<◌, ◌≤◌, min, max, Bool, true, false, ◌&&◌, ◌||◌, eqb, ltb, sym, refl, ap, ◌∙◌, subst, ap₂, mod-lt, suc-mul, pow-suc, div-le_self, arith, lit<, lit≤, pow_pos, pow-add}
-use native.Mathlib.Nat.{mod-le, mul-add-mod_self_right, sub-zero}
+use Rattle.std.proofs.Common.{◌≡◌, ℕ, zero, suc, ◌+◌, ◌-◌, ◌*◌, ◌/◌, ◌%◌, ◌^◌, ◌<◌, ◌≤◌, min, max, Bool, true, false, ◌&&◌, ◌||◌, eqb, ltb, refl, ap, ◌∙◌, subst, ap₂, mod-lt, suc-mul, pow-suc, div-le_self, arith, lit<, lit≤, pow_pos, pow-add}
+use native.Mathlib.Nat.{mod-le, mul-add-mod_self_right}
 use lib.Arith.{lt-one}
 use lib.Bits.{bit_and, bit_or, bit_xor, and_step, or_step, xor_step, differ}
 use lib.Pow.{pow-lt, mod-mod-pow, ones_lt, ones_sub-lt}
-use Rattle.std.proofs.lemmas.Nat.{one_shl}
-use Rattle.std.proofs.lemmas.Bool.{eq-eqb}
 use Rattle.words.specs.declared.UnaryOp.{UnaryOp}
 use Rattle.words.specs.declared.UnaryOp.TheVariants.{Not, Neg}
 use Rattle.words.specs.declared.BinaryOp.{BinaryOp}
@@ -42,29 +40,10 @@ cut_difference w x y h l =
     let t : x + (2 ^ 64 - y) ≡ (q - 1) * 2 ^ w + (x + 2 ^ w - y) = omega (arith, p, suc-mul (q - 1) (2 ^ w), ap (λ k. k * 2 ^ w) s) in
     cut_law w (x + (2 ^ 64 - y)) h ∙ (ap (λ k. k % 2 ^ w) t ∙ mul-add-mod_self_right (q - 1) (2 ^ w) (x + 2 ^ w - y))
 
--- half the range of a width of k bits, as a word of 64 bits
-pub half_range : (k w : ℕ) → k ≡ w → 0 < w → w ≤ 64 → 1 * 2 ^ (k - 1) % 2 ^ 64 ≡ 2 ^ (w - 1)
-half_range k w e p h = one_shl (k - 1) 64 (omega arith) ∙ ap (λ j. 2 ^ (j - 1)) e
-
 -- what holds either way of a choice holds of it
 pick_both : (P : ℕ → Type 0) (b : Bool) (x y : ℕ) → P x → P y → P (pick b x y)
 pick_both P true x y p q = p
 pick_both P false x y p q = q
-
-pub pick_true : {A : Type 0} (b : Bool) (x y : A) → b ≡ true → pick b x y ≡ x
-pick_true b x y e = rw e refl
-
-less_pick : (b : Bool) (n q : ℕ) → n - pick b q 0 ≡ pick b (n - q) n
-less_pick true n q = refl
-less_pick false n q = sub-zero n
-
--- a shift of a word whose top bit is 1, filled with that bit: the complement, shifted and filled with 0
-pub sign_filled : (w x y k m r : ℕ) → m + 1 ≡ 2 ^ w → k ≡ w → x / 2 ^ (k - 1) % 2 ≡ 1 → r ≡ do2 w Lshr (m - x) y → m - r ≡ do2 w Ashr x y
-sign_filled w x y k m r em ek t er =
-    let e : m ≡ 2 ^ w - 1 = omega arith in
-    let u : top w x ≡ true = eq-eqb (x / 2 ^ (w - 1) % 2) 1 (subst (λ j. x / 2 ^ (j - 1) % 2 ≡ 1) ek t) in
-    ap₂ (λ a b. a - b) e (er ∙ ap (λ n. do2 w Lshr (n - x) y) e)
-    ∙ (less_pick (ltb y w) (2 ^ w - 1) ((2 ^ w - 1 - x) / 2 ^ y) ∙ sym (pick_true (top w x) _ _ u))
 
 -- an operation on digits is one on truth values, if it is so at the four pairs of digits
 digit : (f : Bool → Bool → Bool) (g : ℕ → ℕ → ℕ)
@@ -101,7 +80,7 @@ bitwise_or = bitwise_is ◌||◌ bit_or max refl or_step (digit ◌||◌ max ref
 pub bitwise_xor : (w x y : ℕ) → x < 2 ^ w → y < 2 ^ w → bit_xor x y ≡ bitwise xor w x y
 bitwise_xor = bitwise_is xor bit_xor differ refl xor_step (digit xor differ refl refl refl refl)
 
-bitwise_word : (f : Bool → Bool → Bool) (w x y : ℕ) → bitwise f w x y < 2 ^ w
+pub bitwise_word : (f : Bool → Bool → Bool) (w x y : ℕ) → bitwise f w x y < 2 ^ w
 bitwise_word f zero x y = lit< tt
 bitwise_word f (suc w) x y =
     let p = pow-suc 2 w in

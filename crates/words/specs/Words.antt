@@ -1,11 +1,12 @@
 -- Words of w bits as numbers below 2 ^ w, with the operations of SMT-LIB's theory of bit vectors of
 -- fixed size. Two things differ from SMT-LIB: a comparison gives the word 1 or 0, and an ite tests a
 -- word against 0.
-use Rattle.std.specs.Prelude.{ℕ, zero, suc, ◌+◌, ◌-◌, ◌*◌, ◌/◌, ◌%◌, ◌^◌, Bool, true, false, not, ◌&&◌, ◌||◌, ◌==◌, nat_lt}
+use Rattle.std.specs.Prelude.{◌≡◌, ◌≢◌, ℕ, zero, suc, ◌+◌, ◌-◌, ◌*◌, ◌/◌, ◌%◌, ◌^◌, Bool, true, false, not, ◌&&◌, ◌||◌, ◌==◌, nat_lt, Result, MatchResult}
 use Rattle.words.specs.declared.UnaryOp.{UnaryOp}
 use Rattle.words.specs.declared.UnaryOp.TheVariants.{Not, Neg}
 use Rattle.words.specs.declared.BinaryOp.{BinaryOp}
 use Rattle.words.specs.declared.BinaryOp.TheVariants.{Add, Sub, Mul, Udiv, Urem, And, Or, Xor, Shl, Lshr, Ashr, Comp, Ult, Slt}
+use Rattle.words.specs.declared.NoWidth.{NoWidth}
 use Rattle.words.specs.declared.Width.{Width}
 use Rattle.words.specs.declared.Width.TheVariants.{W8, W16, W32, W64}
 
@@ -14,6 +15,10 @@ bits W8 = 8
 bits W16 = 16
 bits W32 = 32
 bits W64 = 64
+
+-- the result is the width of so many bits, or no width has so many
+abbrev pub IsWidthOf : ℕ → Result Width NoWidth → Type 0
+IsWidthOf n r = MatchResult r (λ v. bits v ≡ n) (λ e. (e.0 ≡ n) × ((v : Width) → bits v ≢ n))
 
 abbrev pub pick : {A : Type 0} → Bool → A → A → A
 pick true a b = a

@@ -2,11 +2,7 @@
 ghost use Rattle.std.specs.Prelude.{◌≡◌, ◌^◌, ◌<◌};
 ghost use Rattle.words.specs.Words.{bits, do1, do2};
 
-use crate::arithmetic::{add, mul, neg, sub, udiv, urem};
-use crate::bitwise::{bit_and, bit_not, bit_or, bit_xor};
-use crate::compare::{comp, slt, ult};
-use crate::shift::{ashr, lshr, shl};
-use crate::{BinaryOp, UnaryOp, Width};
+use crate::{BinaryOp, Operands, UnaryOp, Width, Word};
 
 // The word that `op` gives of `x`.
 pub fn apply1(width: Width, op: UnaryOp, x: u64) -> u64
@@ -14,9 +10,10 @@ pub fn apply1(width: Width, op: UnaryOp, x: u64) -> u64
     ensures value { result ≡ do1 (bits width) op x }
     ensures word { result < 2 ^ bits width }
 {
+    let word = Word { width, value: x };
     match op {
-        UnaryOp::Not => bit_not(width, x),
-        UnaryOp::Neg => neg(width, x),
+        UnaryOp::Not => word.bit_not(),
+        UnaryOp::Neg => word.neg(),
     }
 }
 
@@ -26,20 +23,25 @@ pub fn apply2(width: Width, op: BinaryOp, x: u64, y: u64) -> u64
     ensures value { result ≡ do2 (bits width) op x y }
     ensures word { result < 2 ^ bits width }
 {
+    let operands = Operands {
+        width,
+        left: x,
+        right: y,
+    };
     match op {
-        BinaryOp::Add => add(width, x, y),
-        BinaryOp::Sub => sub(width, x, y),
-        BinaryOp::Mul => mul(width, x, y),
-        BinaryOp::Udiv => udiv(width, x, y),
-        BinaryOp::Urem => urem(width, x, y),
-        BinaryOp::And => bit_and(width, x, y),
-        BinaryOp::Or => bit_or(width, x, y),
-        BinaryOp::Xor => bit_xor(width, x, y),
-        BinaryOp::Shl => shl(width, x, y),
-        BinaryOp::Lshr => lshr(width, x, y),
-        BinaryOp::Ashr => ashr(width, x, y),
-        BinaryOp::Comp => comp(width, x, y),
-        BinaryOp::Ult => ult(width, x, y),
-        BinaryOp::Slt => slt(width, x, y),
+        BinaryOp::Add => operands.add(),
+        BinaryOp::Sub => operands.sub(),
+        BinaryOp::Mul => operands.mul(),
+        BinaryOp::Udiv => operands.udiv(),
+        BinaryOp::Urem => operands.urem(),
+        BinaryOp::And => operands.bit_and(),
+        BinaryOp::Or => operands.bit_or(),
+        BinaryOp::Xor => operands.bit_xor(),
+        BinaryOp::Shl => operands.shl(),
+        BinaryOp::Lshr => operands.lshr(),
+        BinaryOp::Ashr => operands.ashr(),
+        BinaryOp::Comp => operands.comp(),
+        BinaryOp::Ult => operands.ult(),
+        BinaryOp::Slt => operands.slt(),
     }
 }

@@ -1,11 +1,11 @@
 // The arithmetic of words. Sums, differences and products wrap at 64 bits and are then cut to the
 // width, which gives the same word as to wrap at the width, since no width has more than 64 bits.
-ghost use Rattle.std.specs.Prelude.{◌≡◌, ◌+◌, ◌*◌, ◌^◌, ◌<◌};
+ghost use Rattle.std.specs.Prelude.{◌≡◌, ◌+◌, ◌*◌, ◌^◌};
 ghost use Rattle.words.specs.Words.{bits, do1, do2};
 ghost use Rattle.words.specs.declared.BinaryOp.TheVariants.{Add, Sub, Mul, Udiv, Urem};
 ghost use Rattle.words.specs.declared.UnaryOp.TheVariants.{Neg};
 
-use crate::{Width, cut};
+use crate::{Operands, Word};
 
 // The two halves of a product of two words of 64 bits.
 #[derive(Clone, Copy)]
@@ -24,56 +24,60 @@ pub fn wide_product(x: u64, y: u64) -> Product
     Product { high, low }
 }
 
-// Minus `x`, in two's complement.
-pub(crate) fn neg(width: Width, x: u64) -> u64
-    requires { x < 2 ^ bits width }
-    ensures value { result ≡ do1 (bits width) Neg x }
-    ensures word { result < 2 ^ bits width }
-{
-    cut(width, 0u64.wrapping_sub(x))
+impl Word {
+    // Minus the word, in two's complement.
+    #[tactic(auto, using(crate::proofs::Laws::cut_difference, crate::proofs::Laws::bits_le))]
+    pub(crate) fn neg(self) -> u64
+        ensures { result ≡ do1 (bits self.width) Neg self.value }
+    {
+        self.width.cut(0u64.wrapping_sub(self.value))
+    }
 }
 
-// The sum of `x` and `y`.
-pub(crate) fn add(width: Width, x: u64, y: u64) -> u64
-    requires { (x < 2 ^ bits width) × (y < 2 ^ bits width) }
-    ensures value { result ≡ do2 (bits width) Add x y }
-    ensures word { result < 2 ^ bits width }
-{
-    cut(width, x.wrapping_add(y))
-}
+impl Operands {
+    // Their sum.
+    #[tactic(auto, using(crate::proofs::Laws::cut_law, crate::proofs::Laws::bits_le))]
+    pub(crate) fn add(self) -> u64
+        ensures { result ≡ do2 (bits self.width) Add self.left self.right }
+    {
+        self.width.cut(self.left.wrapping_add(self.right))
+    }
 
-// The difference of `x` and `y`.
-pub(crate) fn sub(width: Width, x: u64, y: u64) -> u64
-    requires { (x < 2 ^ bits width) × (y < 2 ^ bits width) }
-    ensures value { result ≡ do2 (bits width) Sub x y }
-    ensures word { result < 2 ^ bits width }
-{
-    cut(width, x.wrapping_sub(y))
-}
+    // The left one less the right one.
+    #[tactic(auto, using(crate::proofs::Laws::cut_difference, crate::proofs::Laws::bits_le))]
+    pub(crate) fn sub(self) -> u64
+        ensures { result ≡ do2 (bits self.width) Sub self.left self.right }
+    {
+        self.width.cut(self.left.wrapping_sub(self.right))
+    }
 
-// The product of `x` and `y`.
-pub(crate) fn mul(width: Width, x: u64, y: u64) -> u64
-    requires { (x < 2 ^ bits width) × (y < 2 ^ bits width) }
-    ensures value { result ≡ do2 (bits width) Mul x y }
-    ensures word { result < 2 ^ bits width }
-{
-    cut(width, x.wrapping_mul(y))
-}
+    // Their product.
+    #[tactic(auto, using(crate::proofs::Laws::cut_law, crate::proofs::Laws::bits_le))]
+    pub(crate) fn mul(self) -> u64
+        ensures { result ≡ do2 (bits self.width) Mul self.left self.right }
+    {
+        self.width.cut(self.left.wrapping_mul(self.right))
+    }
 
-// The quotient of `x` by `y`, or the largest word where `y` is 0.
-pub(crate) fn udiv(width: Width, x: u64, y: u64) -> u64
-    requires { (x < 2 ^ bits width) × (y < 2 ^ bits width) }
-    ensures value { result ≡ do2 (bits width) Udiv x y }
-    ensures word { result < 2 ^ bits width }
-{
-    if y == 0 { width.mask() } else { x / y }
-}
+    // The quotient of the left one by the right one, or the largest word where the right one is 0.
+    pub(crate) fn udiv(self) -> u64
+        ensures { result ≡ do2 (bits self.width) Udiv self.left self.right }
+    {
+        if self.right == 0 {
+            self.width.mask()
+        } else {
+            self.left / self.right
+        }
+    }
 
-// The remainder of `x` by `y`, or `x` where `y` is 0.
-pub(crate) fn urem(width: Width, x: u64, y: u64) -> u64
-    requires { (x < 2 ^ bits width) × (y < 2 ^ bits width) }
-    ensures value { result ≡ do2 (bits width) Urem x y }
-    ensures word { result < 2 ^ bits width }
-{
-    if y == 0 { x } else { x % y }
+    // The remainder of the left one by the right one, or the left one where the right one is 0.
+    pub(crate) fn urem(self) -> u64
+        ensures { result ≡ do2 (bits self.width) Urem self.left self.right }
+    {
+        if self.right == 0 {
+            self.left
+        } else {
+            self.left % self.right
+        }
+    }
 }

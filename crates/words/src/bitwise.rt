@@ -1,43 +1,39 @@
 // The operations that go bit by bit.
-ghost use Rattle.std.specs.Prelude.{◌≡◌, ◌^◌, ◌<◌};
+ghost use Rattle.std.specs.Prelude.{◌≡◌};
 ghost use Rattle.words.specs.Words.{bits, do1, do2};
 ghost use Rattle.words.specs.declared.BinaryOp.TheVariants.{And, Or, Xor};
 ghost use Rattle.words.specs.declared.UnaryOp.TheVariants.{Not};
 
-use crate::Width;
+use crate::{Operands, Word};
 
-// Each bit of `x` turned over, by a difference that borrows nothing, since the mask has every bit.
-pub(crate) fn bit_not(width: Width, x: u64) -> u64
-    requires { x < 2 ^ bits width }
-    ensures value { result ≡ do1 (bits width) Not x }
-    ensures word { result < 2 ^ bits width }
-{
-    width.mask() - x
+impl Word {
+    // Each bit turned over, by a difference that borrows nothing, since the mask has every bit.
+    pub(crate) fn bit_not(self) -> u64
+        ensures { result ≡ do1 (bits self.width) Not self.value }
+    {
+        self.width.mask() - self.value
+    }
 }
 
-// The bits that `x` and `y` share.
-pub(crate) fn bit_and(width: Width, x: u64, y: u64) -> u64
-    requires { (x < 2 ^ bits width) × (y < 2 ^ bits width) }
-    ensures value { result ≡ do2 (bits width) And x y }
-    ensures word { result < 2 ^ bits width }
-{
-    x & y
-}
+impl Operands {
+    // The bits that both have.
+    pub(crate) fn bit_and(self) -> u64
+        ensures { result ≡ do2 (bits self.width) And self.left self.right }
+    {
+        self.left & self.right
+    }
 
-// The bits that `x` or `y` has.
-pub(crate) fn bit_or(width: Width, x: u64, y: u64) -> u64
-    requires { (x < 2 ^ bits width) × (y < 2 ^ bits width) }
-    ensures value { result ≡ do2 (bits width) Or x y }
-    ensures word { result < 2 ^ bits width }
-{
-    x | y
-}
+    // The bits that one of them has at least.
+    pub(crate) fn bit_or(self) -> u64
+        ensures { result ≡ do2 (bits self.width) Or self.left self.right }
+    {
+        self.left | self.right
+    }
 
-// The bits that one of `x` and `y` has, and the other lacks.
-pub(crate) fn bit_xor(width: Width, x: u64, y: u64) -> u64
-    requires { (x < 2 ^ bits width) × (y < 2 ^ bits width) }
-    ensures value { result ≡ do2 (bits width) Xor x y }
-    ensures word { result < 2 ^ bits width }
-{
-    x ^ y
+    // The bits that one of them has, and the other lacks.
+    pub(crate) fn bit_xor(self) -> u64
+        ensures { result ≡ do2 (bits self.width) Xor self.left self.right }
+    {
+        self.left ^ self.right
+    }
 }

@@ -1,7 +1,7 @@
 // Machine words of 8, 16, 32 and 64 bits, held in a `u64`, and the operations on them.
 #![tactic(auto)]
 
-ghost use Rattle.std.specs.Prelude.{◌≡◌, ◌+◌, ◌%◌, ◌^◌, ◌<◌, MatchOption, ◌≢◌};
+ghost use Rattle.std.specs.Prelude.{◌≡◌, ◌+◌, ◌%◌, ◌^◌, ◌<◌};
 ghost use Rattle.words.specs.Words.{bits};
 
 mod apply;
@@ -14,7 +14,7 @@ pub use apply::{apply1, apply2};
 pub use arithmetic::{Product, wide_product};
 
 // The width of a word.
-#[derive(Clone, Copy)]
+#[derive(Clone, Copy, Debug, PartialEq, Eq)]
 pub enum Width {
     W8,
     W16,
@@ -23,14 +23,14 @@ pub enum Width {
 }
 
 // The operations of one operand.
-#[derive(Clone, Copy, PartialEq, Eq, Debug)]
+#[derive(Clone, Copy, Debug, PartialEq, Eq)]
 pub enum UnaryOp {
     Not,
     Neg,
 }
 
 // The operations of two operands, under SMT-LIB's names without their `bv`.
-#[derive(Clone, Copy, PartialEq, Eq, Debug)]
+#[derive(Clone, Copy, Debug, PartialEq, Eq)]
 pub enum BinaryOp {
     Add,
     Sub,
@@ -73,24 +73,50 @@ impl Width {
         }
     }
 
-    // The width of so many bits, if it is one of the four.
-    pub fn from_bits(n: u64) -> Option<Width>
-        ensures { MatchOption result ((v : Width) → bits v ≢ n) (λ v. bits v ≡ n) }
+    // The lowest bits of `x`, as many as the width has.
+    fn cut(self, x: u64) -> u64
+        ensures { result ≡ x % 2 ^ bits self }
     {
+        x & self.mask()
+    }
+}
+
+// A number of bits that no width has.
+#[derive(Clone, Copy, Debug, PartialEq, Eq)]
+pub struct NoWidth(pub u64);
+
+impl TryFrom<u64> for Width {
+    type Error = NoWidth;
+
+    ghost use Rattle.words.specs.Words.{IsWidthOf};
+
+    ghost try_from_gives = { IsWidthOf };
+
+    fn try_from(n: u64) -> Result<Width, NoWidth> {
         match n {
-            8 => Some(Width::W8),
-            16 => Some(Width::W16),
-            32 => Some(Width::W32),
-            64 => Some(Width::W64),
-            _ => None,
+            8 => Ok(Width::W8),
+            16 => Ok(Width::W16),
+            32 => Ok(Width::W32),
+            64 => Ok(Width::W64),
+            _ => Err(NoWidth(n)),
         }
     }
 }
 
-// The lowest bits of `x`, as many as the width has.
-pub(crate) fn cut(width: Width, x: u64) -> u64
-    ensures value { result ≡ x % 2 ^ bits width }
-    ensures word { result < 2 ^ bits width }
-{
-    x & width.mask()
+// A word of a width.
+#[derive(Clone, Copy)]
+struct Word {
+    width: Width,
+    value: u64,
+    ghost fits: { value < 2 ^ bits width },
+}
+
+// Two words of one width, which an operation takes.
+#[derive(Clone, Copy)]
+struct Operands {
+    width: Width,
+    left: u64,
+    right: u64,
+    ghost left_fits: { left < 2 ^ bits width },
+    ghost right_fits: { right < 2 ^ bits width },
 }

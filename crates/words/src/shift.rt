@@ -1,48 +1,50 @@
 // The shifts. The count is a word too, and may be the width or more, so each function tests it first:
 // a shift of a `u64` by 64 or more is not defined.
-ghost use Rattle.std.specs.Prelude.{◌≡◌, ◌^◌, ◌<◌};
+ghost use Rattle.std.specs.Prelude.{◌≡◌};
 ghost use Rattle.words.specs.Words.{bits, do2};
 ghost use Rattle.words.specs.declared.BinaryOp.TheVariants.{Shl, Lshr, Ashr};
 
-use crate::{Width, cut};
+use crate::Operands;
 
-// `x` moved up by `y` bits.
-pub(crate) fn shl(width: Width, x: u64, y: u64) -> u64
-    requires { (x < 2 ^ bits width) × (y < 2 ^ bits width) }
-    ensures value { result ≡ do2 (bits width) Shl x y }
-    ensures word { result < 2 ^ bits width }
-{
-    if y < u64::from(width.bits()) {
-        cut(width, x << y)
-    } else {
-        0
+impl Operands {
+    // The left one moved up by as many bits as the right one says.
+    #[tactic(auto, using(crate::proofs::Laws::cut_law, crate::proofs::Laws::bits_le))]
+    pub(crate) fn shl(self) -> u64
+        ensures { result ≡ do2 (bits self.width) Shl self.left self.right }
+    {
+        if self.right < u64::from(self.width.bits()) {
+            self.width.cut(self.left << self.right)
+        } else {
+            0
+        }
     }
-}
 
-// `x` moved down by `y` bits, filled with 0.
-pub(crate) fn lshr(width: Width, x: u64, y: u64) -> u64
-    requires { (x < 2 ^ bits width) × (y < 2 ^ bits width) }
-    ensures value { result ≡ do2 (bits width) Lshr x y }
-    ensures word { result < 2 ^ bits width }
-{
-    if y < u64::from(width.bits()) {
-        x >> y
-    } else {
-        0
+    // The left one moved down, filled with 0.
+    pub(crate) fn lshr(self) -> u64
+        ensures { result ≡ do2 (bits self.width) Lshr self.left self.right }
+    {
+        if self.right < u64::from(self.width.bits()) {
+            self.left >> self.right
+        } else {
+            0
+        }
     }
-}
 
-// `x` moved down by `y` bits, filled with its top bit. Where that is 1, the complement is moved down,
-// which fills with 0, and its complement has 1 there.
-pub(crate) fn ashr(width: Width, x: u64, y: u64) -> u64
-    requires { (x < 2 ^ bits width) × (y < 2 ^ bits width) }
-    ensures value { result ≡ do2 (bits width) Ashr x y }
-    ensures word { result < 2 ^ bits width }
-{
-    let mask = width.mask();
-    if (x >> (width.bits() - 1)) % 2 == 1 {
-        mask - lshr(width, mask - x, y)
-    } else {
-        lshr(width, x, y)
+    // The left one moved down, filled with its top bit. Where that is 1, the complement is moved down,
+    // which fills with 0, and its complement has 1 there.
+    pub(crate) fn ashr(self) -> u64
+        ensures { result ≡ do2 (bits self.width) Ashr self.left self.right }
+    {
+        if (self.left >> (self.width.bits() - 1)) % 2 == 1 {
+            let mask = self.width.mask();
+            let complement = Operands {
+                width: self.width,
+                left: mask - self.left,
+                right: self.right,
+            };
+            mask - complement.lshr()
+        } else {
+            self.lshr()
+        }
     }
 }

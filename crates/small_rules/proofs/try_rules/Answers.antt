@@ -6,7 +6,7 @@ pub unreachable-requires : goal.unreachable-requires
 unreachable-requires c =
     let book = c.requires.says in
     let n = book.2 in
-    rule_there c.args.text.now c.loop-rule.at c.loop-rule._rule c.loop-rule.invariant book.0 book.1 (omega arith) c.in-Err.ensures
+    rule_there c.args.text.now c.loop-rule.at c.loop-rule._rule c.loop-rule.invariant book.0 book.1 (omega arith) c.in_default.ensures
 
 pub loop-rule-preserved : goal.loop-rule-preserved
 loop-rule-preserved c =

@@ -15,12 +15,12 @@ returns-in_err-bits c =
     let p = err_from_is_err_and c.from_residual.result c.from_residual.ensures.1 in
     rw p.1 (width_no_number s c.args.at m f c.in_err-bits.ensures)
 
-pub returns-in_default-from_bits : goal.returns-in_default-from_bits
-returns-in_default-from_bits c =
+pub returns-in_default-try_from : goal.returns-in_default-try_from
+returns-in_default-try_from c =
     let s = c.args.text.now in
     let m = c.next_word-word.result.end in
     let f = subst (λ u. At s c.args.at u m) c.in-Rule.is c.next_word-word.ensures.2 in
-    width_expected s c.args.at m c.in_ok-bits.bits.end c.in_ok-bits.bits.value f c.in_ok-bits.ensures c.in_default-from_bits.ensures
+    width_expected s c.args.at m c.in_ok-bits.bits.end c.in_ok-bits.bits.value f c.in_ok-bits.ensures c.in_default-try_from.ensures.1
 
 pub returns-in_err-needed : goal.returns-in_err-needed
 returns-in_err-needed c =
@@ -42,4 +42,4 @@ returns c =
     let s = c.args.text.now in
     let m = c.next_word-word.result.end in
     let f = subst (λ u. At s c.args.at u m) c.in-Rule.is c.next_word-word.ensures.2 in
-    header_read s c.args.at m c.in_ok-bits.bits.end c.in_ok-needed.needed.end c.in_ok-bits.bits.value c.in_ok-needed.needed.value c.in-Some.width f c.in_ok-bits.ensures c.in-Some.ensures c.in_ok-needed.ensures c.if-needed-gt4.false
+    header_read s c.args.at m c.in_ok-bits.bits.end c.in_ok-needed.needed.end c.in_ok-bits.bits.value c.in_ok-needed.needed.value c.in-Ok.width f c.in_ok-bits.ensures c.in-Ok.ensures c.in_ok-needed.ensures c.if-needed-gt4.false

@@ -2,7 +2,7 @@ use Rattle.std.proofs.Common.{length, sym, ap, ◌∙◌, arith}
 use Rattle.std.proofs.lemmas.Bool.{false≢true}
 use Rattle.terms.proofs.Evaluated.{fails_met, differ_fails}
 use Rattle.terms.proofs.Roots.{root_count}
-use Rattle.terms.proofs.evaluation.fails_at.Goals as goal
+use Rattle.terms.proofs.evaluation.fails_at_with_room.Goals as goal
 
 pub returns-in_default : goal.returns-in_default
 returns-in_default c = λ r rep. absurd (omega (arith, root_count c.args.rule.now r rep, ap length c.as_slice.ensures.value))
