@@ -27,20 +27,13 @@ pub enum Bitwise {
 fn fold_and(a: Literal, b: Literal) -> Option<Literal>
     ensures { result ≡ fold_and a b }
 {
-    if a == LOW {
-        Some(LOW)
-    } else if b == LOW {
-        Some(LOW)
-    } else if a == HIGH {
-        Some(b)
-    } else if b == HIGH {
-        Some(a)
-    } else if a == b {
-        Some(a)
-    } else if a == b.negated() {
-        Some(LOW)
-    } else {
-        None
+    match (a, b) {
+        (LOW, _) | (_, LOW) => Some(LOW),
+        (HIGH, _) => Some(b),
+        (_, HIGH) => Some(a),
+        _ if a == b => Some(a),
+        _ if a == b.negated() => Some(LOW),
+        _ => None,
     }
 }
 
@@ -48,20 +41,14 @@ fn fold_and(a: Literal, b: Literal) -> Option<Literal>
 fn fold_xor(a: Literal, b: Literal) -> Option<Literal>
     ensures { result ≡ fold_xor a b }
 {
-    if a == LOW {
-        Some(b)
-    } else if b == LOW {
-        Some(a)
-    } else if a == HIGH {
-        Some(b.negated())
-    } else if b == HIGH {
-        Some(a.negated())
-    } else if a == b {
-        Some(LOW)
-    } else if a == b.negated() {
-        Some(HIGH)
-    } else {
-        None
+    match (a, b) {
+        (LOW, _) => Some(b),
+        (_, LOW) => Some(a),
+        (HIGH, _) => Some(b.negated()),
+        (_, HIGH) => Some(a.negated()),
+        _ if a == b => Some(LOW),
+        _ if a == b.negated() => Some(HIGH),
+        _ => None,
     }
 }
 
@@ -69,24 +56,16 @@ fn fold_xor(a: Literal, b: Literal) -> Option<Literal>
 fn fold_majority(a: Literal, b: Literal, c: Literal) -> Option<Folded>
     ensures { result ≡ fold_majority a b c }
 {
-    if a == LOW {
-        Some(Folded::And(b, c))
-    } else if a == HIGH {
-        Some(Folded::Or(b, c))
-    } else if b == LOW {
-        Some(Folded::And(a, c))
-    } else if b == HIGH {
-        Some(Folded::Or(a, c))
-    } else if c == LOW {
-        Some(Folded::And(a, b))
-    } else if c == HIGH {
-        Some(Folded::Or(a, b))
-    } else if a == b {
-        Some(Folded::Wire(a))
-    } else if a == b.negated() {
-        Some(Folded::Wire(c))
-    } else {
-        None
+    match (a, b, c) {
+        (LOW, _, _) => Some(Folded::And(b, c)),
+        (HIGH, _, _) => Some(Folded::Or(b, c)),
+        (_, LOW, _) => Some(Folded::And(a, c)),
+        (_, HIGH, _) => Some(Folded::Or(a, c)),
+        (_, _, LOW) => Some(Folded::And(a, b)),
+        (_, _, HIGH) => Some(Folded::Or(a, b)),
+        _ if a == b => Some(Folded::Wire(a)),
+        _ if a == b.negated() => Some(Folded::Wire(c)),
+        _ => None,
     }
 }
 
@@ -94,22 +73,15 @@ fn fold_majority(a: Literal, b: Literal, c: Literal) -> Option<Folded>
 fn fold_choice(s: Literal, a: Literal, b: Literal) -> Option<Folded>
     ensures { result ≡ fold_choice s a b }
 {
-    if s == HIGH {
-        Some(Folded::Wire(a))
-    } else if s == LOW {
-        Some(Folded::Wire(b))
-    } else if a == b {
-        Some(Folded::Wire(a))
-    } else if a == HIGH {
-        Some(Folded::Or(s, b))
-    } else if a == LOW {
-        Some(Folded::And(s.negated(), b))
-    } else if b == HIGH {
-        Some(Folded::Or(s.negated(), a))
-    } else if b == LOW {
-        Some(Folded::And(s, a))
-    } else {
-        None
+    match (s, a, b) {
+        (HIGH, _, _) => Some(Folded::Wire(a)),
+        (LOW, _, _) => Some(Folded::Wire(b)),
+        _ if a == b => Some(Folded::Wire(a)),
+        (_, HIGH, _) => Some(Folded::Or(s, b)),
+        (_, LOW, _) => Some(Folded::And(s.negated(), b)),
+        (_, _, HIGH) => Some(Folded::Or(s.negated(), a)),
+        (_, _, LOW) => Some(Folded::And(s, a)),
+        _ => None,
     }
 }
 
