@@ -1,11 +1,11 @@
 -- A gate's clauses, one after the other.
-use Rattle.std.proofs.Common.{◌≡◌, List, [], ◌∷◌, sym, refl, ap, ◌∙◌, subst}
+use Rattle.std.proofs.Common.{◌≡◌, List, sym, refl, ap, ◌∙◌, subst}
 use Rattle.clauses.specs.declared.literal.Literal.{Literal}
-use Rattle.circuit.specs.Nets.{Net, said, said_all, fresh, taken}
+use Rattle.circuit.specs.Nets.{Net, said_all, fresh, taken}
 use Rattle.circuit.specs.Gates.{gate}
 use Rattle.circuit.specs.Built.{Written, Fits, Wrote}
 use Rattle.circuit.proofs.Growing.{said_all_grows}
-use Rattle.circuit.proofs.Writing.{fits_first, fits_here, wrote_here}
+use Rattle.circuit.proofs.Writing.{fits_first, fits_here}
 
 -- b began as a, and has to write the clauses cs to have written the net m
 pub record Rows (a b : Written) (cs : List (List Literal)) (m : Net) : Type 0 where
@@ -13,14 +13,11 @@ pub record Rows (a b : Written) (cs : List (List Literal)) (m : Net) : Type 0 wh
   pub room : Fits b m
   pub left : said_all cs b.net ≡ m
 
-pub row_fits : {a b : Written} {c : List Literal} {cs : List (List Literal)} {m : Net} → Rows a b (c ∷ cs) m → Fits b (said c b.net)
-row_fits {a} {b} {c} {cs} r = fits_first (said_all_grows cs (said c b.net)) (subst (Fits b) (sym r.left) r.room)
+pub rows_fit : {a b : Written} {cs : List (List Literal)} {m : Net} → Rows a b cs m → Fits b (said_all cs b.net)
+rows_fit {a} {b} r = subst (Fits b) (sym r.left) r.room
 
-pub row_written : {a b b' : Written} {c : List Literal} {cs : List (List Literal)} {m : Net} → Rows a b (c ∷ cs) m → Wrote b b' (said c b.net) → Rows a b' cs m
-row_written {a} {b} {b'} {c} {cs} r w = record { wrote = wrote_here r.wrote w; room = fits_here (record { net = refl; size = w.size }) r.room; left = ap (said_all cs) w.net ∙ r.left }
-
-pub rows_written : {a b : Written} {m : Net} → Rows a b [] m → Wrote a b m
-rows_written r = record { net = r.left; size = r.wrote.size }
+pub rows_written : {a b b' : Written} {cs : List (List Literal)} {m : Net} → Rows a b cs m → Wrote b b' (said_all cs b.net) → Wrote a b' m
+rows_written r w = record { net = w.net ∙ r.left; size = w.size ∙ r.wrote.size }
 
 -- a gate takes a variable, and then writes its clauses
 pub gate_fresh : {a : Written} (rows : Literal → List (List Literal)) → Fits a (gate rows a.net).0 → Fits a (taken a.net)

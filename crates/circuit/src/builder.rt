@@ -2,8 +2,8 @@
 //
 // A clause is its literals' codes and then a 0. A builder only writes behind what it has written, so
 // the clauses of a circuit stand in the order in which the circuit makes them.
-ghost use Rattle.std.specs.Prelude.{◌≡◌, ◌≤◌, [], ◌∷◌, length, take};
-ghost use Rattle.circuit.specs.Nets.{said, fresh, taken, free};
+ghost use Rattle.std.specs.Prelude.{◌≡◌, ◌≤◌, [], ◌∷◌, length, map, take};
+ghost use Rattle.circuit.specs.Nets.{said, said_all, fresh, taken, free};
 ghost use Rattle.circuit.specs.Parts.{appended};
 ghost use Rattle.circuit.specs.Built.{Written, Fits, Wrote};
 
@@ -82,6 +82,16 @@ impl<'a> Builder<'a> {
             self.push(literal.0);
         }
         self.push(0);
+    }
+
+    // Some clauses, one after the other.
+    pub(crate) fn clauses(&mut self, rows: &[&[Literal]])
+        requires { Fits self.old (said_all (map (λ r. r.now) rows.now) self.old.net) }
+        ensures { Wrote self.old self.new (said_all (map (λ r. r.now) rows.now) self.old.net) }
+    {
+        for row in rows {
+            self.clause(row);
+        }
     }
 
     // The literal of a new variable.

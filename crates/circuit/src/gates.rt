@@ -95,9 +95,7 @@ impl Builder<'_> {
         let off = output.negated();
         let not_a = a.negated();
         let not_b = b.negated();
-        self.clause(&[off, a]);
-        self.clause(&[off, b]);
-        self.clause(&[output, not_a, not_b]);
+        self.clauses(&[&[off, a], &[off, b], &[output, not_a, not_b]]);
         output
     }
 
@@ -110,10 +108,12 @@ impl Builder<'_> {
         let off = output.negated();
         let not_a = a.negated();
         let not_b = b.negated();
-        self.clause(&[off, a, b]);
-        self.clause(&[off, not_a, not_b]);
-        self.clause(&[output, not_a, b]);
-        self.clause(&[output, a, not_b]);
+        self.clauses(&[
+            &[off, a, b],
+            &[off, not_a, not_b],
+            &[output, not_a, b],
+            &[output, a, not_b],
+        ]);
         output
     }
 
@@ -127,12 +127,14 @@ impl Builder<'_> {
         let not_a = a.negated();
         let not_b = b.negated();
         let not_c = c.negated();
-        self.clause(&[off, a, b]);
-        self.clause(&[off, a, c]);
-        self.clause(&[off, b, c]);
-        self.clause(&[output, not_a, not_b]);
-        self.clause(&[output, not_a, not_c]);
-        self.clause(&[output, not_b, not_c]);
+        self.clauses(&[
+            &[off, a, b],
+            &[off, a, c],
+            &[off, b, c],
+            &[output, not_a, not_b],
+            &[output, not_a, not_c],
+            &[output, not_b, not_c],
+        ]);
         output
     }
 
@@ -146,10 +148,12 @@ impl Builder<'_> {
         let not_s = s.negated();
         let not_a = a.negated();
         let not_b = b.negated();
-        self.clause(&[not_s, off, a]);
-        self.clause(&[not_s, output, not_a]);
-        self.clause(&[s, off, b]);
-        self.clause(&[s, output, not_b]);
+        self.clauses(&[
+            &[not_s, off, a],
+            &[not_s, output, not_a],
+            &[s, off, b],
+            &[s, output, not_b],
+        ]);
         output
     }
 

@@ -4,7 +4,7 @@ use Rattle.clauses.specs.Literals.{negated}
 use Rattle.circuit.specs.Nets.{fresh, taken}
 use Rattle.circuit.specs.Gates.{and_rows, gate}
 use Rattle.circuit.specs.Built.{Written, Fits, Wrote}
-use Rattle.circuit.proofs.Rows.{Rows, row_fits, row_written, rows_written, gate_fresh, gate_rows}
+use Rattle.circuit.proofs.Rows.{Rows, rows_fit, rows_written, gate_fresh, gate_rows}
 use Rattle.circuit.proofs.builder.Builder.and_gate.Goals as goal
 
 -- the clauses as the code has their literals
@@ -17,14 +17,8 @@ start {x} {y} {o} {p} {a} {na} {b} {nb} f w e ep ea eb = gate_rows (λ o. and_ro
 pub fresh-output-requires : goal.fresh-output-requires
 fresh-output-requires c = gate_fresh (λ o. and_rows o c.args.a c.args.b) c.requires
 
-pub clause-requires : goal.clause-requires
-clause-requires c = row_fits (start c.requires c.fresh-output.ensures.wrote c.fresh-output.ensures.literal c.negated-off.ensures.value c.negated-not_a.ensures.value c.negated-not_b.ensures.value)
-
-pub clause-requires-2 : goal.clause-requires-2
-clause-requires-2 c = row_fits (row_written (start c.requires c.fresh-output.ensures.wrote c.fresh-output.ensures.literal c.negated-off.ensures.value c.negated-not_a.ensures.value c.negated-not_b.ensures.value) c.clause.ensures)
-
-pub clause-requires-3 : goal.clause-requires-3
-clause-requires-3 c = row_fits (row_written (row_written (start c.requires c.fresh-output.ensures.wrote c.fresh-output.ensures.literal c.negated-off.ensures.value c.negated-not_a.ensures.value c.negated-not_b.ensures.value) c.clause.ensures) c.clause-2.ensures)
+pub clauses-requires : goal.clauses-requires
+clauses-requires c = rows_fit (start c.requires c.fresh-output.ensures.wrote c.fresh-output.ensures.literal c.negated-off.ensures.value c.negated-not_a.ensures.value c.negated-not_b.ensures.value)
 
 pub returns : goal.returns
-returns c = record { wrote = rows_written (row_written (row_written (row_written (start c.requires c.fresh-output.ensures.wrote c.fresh-output.ensures.literal c.negated-off.ensures.value c.negated-not_a.ensures.value c.negated-not_b.ensures.value) c.clause.ensures) c.clause-2.ensures) c.clause-3.ensures); output = c.fresh-output.ensures.literal }
+returns c = record { wrote = rows_written (start c.requires c.fresh-output.ensures.wrote c.fresh-output.ensures.literal c.negated-off.ensures.value c.negated-not_a.ensures.value c.negated-not_b.ensures.value) c.clauses.ensures; output = c.fresh-output.ensures.literal }
