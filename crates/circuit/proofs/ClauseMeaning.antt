@@ -5,9 +5,10 @@ use Rattle.std.proofs.lemmas.Bool.{and_parts, and_from}
 use Rattle.words.specs.Words.{xor}
 use Rattle.clauses.specs.declared.literal.Literal.{Literal}
 use Rattle.clauses.specs.Flat.{Model}
-use Rattle.circuit.specs.Bits.{not_b, equal_b, lower, top, none_b, apart_b, all_b}
-use Rattle.circuit.specs.Nets.{Net, negated, said}
-use Rattle.circuit.specs.Circuits.{denied_n, none_n, apart_n, equated_n, unless_n}
+use Rattle.circuit.specs.Bits.{not_bits, equal_bits, lower, top, none_bits, apart_bits, all_bits}
+use Rattle.clauses.specs.Literals.{negated}
+use Rattle.circuit.specs.Nets.{Net, said}
+use Rattle.circuit.specs.Circuits.{denied_net, none_net, apart_net, equated_net, unless_net}
 use Rattle.circuit.specs.Meaning.{truth_of, Below, WordBelow, Whole, Carries, Spells}
 use Rattle.circuit.proofs.Models.{some, truth_negated, below_negated, word_lift, said_parts, said_both, said_well, said_below}
 use Rattle.circuit.proofs.Nets.{carries_itself, spells_itself}
@@ -72,33 +73,33 @@ module _ {n : Net} (w : Whole n) where
   pub says_either : {a b : Literal} → Below n.next a.0 → Below n.next b.0 → Says n (said (a ∷ b ∷ []) n) (λ s. truth_of s a || truth_of s b)
   says_either {a} {b} ba bb = says_as (λ s h. ap (λ t. truth_of s a || t) (or-false (truth_of s b))) (says_one (a ∷ b ∷ []) w (ba, (bb, tt)))
 
-pub denied_says : (ls : List Literal) {n : Net} → Whole n → WordBelow n.next ls → Says n (denied_n ls n) (λ s. all_b (not_b (map (truth_of s) ls)))
+pub denied_says : (ls : List Literal) {n : Net} → Whole n → WordBelow n.next ls → Says n (denied_net ls n) (λ s. all_bits (not_bits (map (truth_of s) ls)))
 denied_says [] w b = says_none w
 denied_says (l ∷ ls) w b = let c = says_not w b.0 in says_then c (denied_says ls c.whole (below_said c ls b.1))
 
-none_says : (ls : List Literal) {n : Net} {l : Literal} → Whole n → Below n.next l.0 → WordBelow n.next ls → Says n (none_n l ls n) (λ s. none_b (truth_of s l) (map (truth_of s) ls))
+none_says : (ls : List Literal) {n : Net} {l : Literal} → Whole n → Below n.next l.0 → WordBelow n.next ls → Says n (none_net l ls n) (λ s. none_bits (truth_of s l) (map (truth_of s) ls))
 none_says [] w a b = says_none w
 none_says (x ∷ ls) {l = l} w a b = let c = says_apart w b.0 a in says_then c (none_says ls c.whole (below_said c (l ∷ []) (a, tt)).0 (below_said c ls b.1))
 
-pub apart_says : (xs ys : List Literal) {n : Net} → Whole n → WordBelow n.next xs → WordBelow n.next ys → Says n (apart_n xs ys n) (λ s. apart_b (map (truth_of s) xs) (map (truth_of s) ys))
+pub apart_says : (xs ys : List Literal) {n : Net} → Whole n → WordBelow n.next xs → WordBelow n.next ys → Says n (apart_net xs ys n) (λ s. apart_bits (map (truth_of s) xs) (map (truth_of s) ys))
 apart_says [] ys w bx by = says_none w
 apart_says (x ∷ xs) [] w bx by = says_none w
 apart_says (x ∷ xs) (y ∷ ys) {n} w bx by =
     let t : Carries n (top y ys) (λ s. top (truth_of s y) (map (truth_of s) ys)) = carries_top (carries_itself by.0) (spells_itself by.1) in
     let l : Spells n (lower y ys) (λ s. lower (truth_of s y) (map (truth_of s) ys)) = spells_lower (carries_itself by.0) (spells_itself by.1) in
     let c = none_says xs w t.below bx.1 in
-    says_as (λ s h. ap₂ (λ a b. none_b a (map (truth_of s) xs) && apart_b (map (truth_of s) xs) b) (t.means s h) (l.means s h))
+    says_as (λ s h. ap₂ (λ a b. none_bits a (map (truth_of s) xs) && apart_bits (map (truth_of s) xs) b) (t.means s h) (l.means s h))
     (says_then c (apart_says xs (lower y ys) c.whole (below_said c xs bx.1) (below_said c (lower y ys) l.below)))
 
-equal_later : (xs ys : List Bool) (c : Bool) → equal_b xs ys c ≡ (c && equal_b xs ys true)
+equal_later : (xs ys : List Bool) (c : Bool) → equal_bits xs ys c ≡ (c && equal_bits xs ys true)
 equal_later [] ys true = refl
 equal_later [] ys false = refl
 equal_later (x ∷ xs) [] true = refl
 equal_later (x ∷ xs) [] false = refl
 equal_later (x ∷ xs) (y ∷ ys) c =
-    equal_later xs ys (c && not (xor x y)) ∙ (and_assoc c (not (xor x y)) (equal_b xs ys true) ∙ ap (λ t. c && t) (sym (equal_later xs ys (not (xor x y)))))
+    equal_later xs ys (c && not (xor x y)) ∙ (and_assoc c (not (xor x y)) (equal_bits xs ys true) ∙ ap (λ t. c && t) (sym (equal_later xs ys (not (xor x y)))))
 
-pub equated_says : (xs ys : List Literal) {n : Net} → Whole n → WordBelow n.next xs → WordBelow n.next ys → Says n (equated_n xs ys n) (λ s. equal_b (map (truth_of s) xs) (map (truth_of s) ys) true)
+pub equated_says : (xs ys : List Literal) {n : Net} → Whole n → WordBelow n.next xs → WordBelow n.next ys → Says n (equated_net xs ys n) (λ s. equal_bits (map (truth_of s) xs) (map (truth_of s) ys) true)
 equated_says [] ys w bx by = says_none w
 equated_says (x ∷ xs) [] w bx by = says_none w
 equated_says (x ∷ xs) (y ∷ ys) w bx by =
@@ -113,9 +114,9 @@ equated_says (x ∷ xs) (y ∷ ys) w bx by =
     same true false = refl
     same false b = refl
 
-pub unless_says : (ls : List Literal) {n : Net} {a : Literal} → Whole n → Below n.next a.0 → WordBelow n.next ls → Says n (unless_n a ls n) (λ s. truth_of s a || all_b (map (truth_of s) ls))
+pub unless_says : (ls : List Literal) {n : Net} {a : Literal} → Whole n → Below n.next a.0 → WordBelow n.next ls → Says n (unless_net a ls n) (λ s. truth_of s a || all_bits (map (truth_of s) ls))
 unless_says [] {a = a} w b bl = says_as (λ s h. sym (or-true (truth_of s a))) (says_none w)
 unless_says (l ∷ ls) {a = a} w b bl =
     let c = says_either w b bl.0 in
-    says_as (λ s h. sym (or-and_distrib_left (truth_of s a) (truth_of s l) (all_b (map (truth_of s) ls))))
+    says_as (λ s h. sym (or-and_distrib_left (truth_of s a) (truth_of s l) (all_bits (map (truth_of s) ls))))
     (says_then c (unless_says ls c.whole (below_said c (a ∷ []) (b, tt)).0 (below_said c ls bl.1)))

@@ -3,19 +3,19 @@ use Rattle.std.proofs.Common.{◌≡◌, ℕ, zero, suc, ◌+◌, ◌-◌, ◌*�
 use Rattle.std.proofs.lemmas.Bool.{lt-ltb, le-ltb, ne_eqb}
 use Rattle.std.proofs.lemmas.Bool.Decides.{nat_tests}
 use Rattle.words.specs.Words.{pick, xor, moved}
-use Rattle.circuit.specs.Bits.{bit, val, not_b, zip_b, flag, carry_b, sub_b, ult_b, topped, slt_b, equal_b, any_b, top, all_b}
+use Rattle.circuit.specs.Bits.{bit, val, not_bits, zip_bits, flag, carry_bits, sub_bits, ult_bits, topped, slt_bits, equal_bits, any_bits, top, all_bits}
 use Rattle.circuit.proofs.Numbers.{bit_lt, val_lt, length_not, val_not, val_zeros, length_fill}
 use Rattle.circuit.proofs.Adder.{rest_is, sum_with_carry, length_sub}
 
-pub ult_right : (xs ys : List Bool) → length xs ≡ length ys → ult_b xs ys ≡ ltb (val xs) (val ys)
-ult_right xs ys e = go (carry_b xs (not_b ys) true) (sum_with_carry xs (not_b ys) true (e ∙ sym (length_not ys)))
+pub ult_right : (xs ys : List Bool) → length xs ≡ length ys → ult_bits xs ys ≡ ltb (val xs) (val ys)
+ult_right xs ys e = go (carry_bits xs (not_bits ys) true) (sum_with_carry xs (not_bits ys) true (e ∙ sym (length_not ys)))
   where
     p : 2 ^ length xs ≡ 2 ^ length ys
     p = ap (λ k. 2 ^ k) e
 
-    go : (c : Bool) → val (sub_b xs ys) + 2 ^ length xs * bit c ≡ val xs + val (not_b ys) + 1 → not c ≡ ltb (val xs) (val ys)
+    go : (c : Bool) → val (sub_bits xs ys) + 2 ^ length xs * bit c ≡ val xs + val (not_bits ys) + 1 → not c ≡ ltb (val xs) (val ys)
     go true h = sym (le-ltb (val xs) (val ys) (omega (arith, val_not ys, p, h, mul-one (2 ^ length xs))))
-    go false h = sym (lt-ltb (val xs) (val ys) (omega (arith, val_not ys, p, val_lt (sub_b xs ys), ap (λ k. 2 ^ k) (length_sub xs ys e), h, mul-zero (2 ^ length xs))))
+    go false h = sym (lt-ltb (val xs) (val ys) (omega (arith, val_not ys, p, val_lt (sub_bits xs ys), ap (λ k. 2 ^ k) (length_sub xs ys e), h, mul-zero (2 ^ length xs))))
 
 -- Two words that differ at most in their top bit: the others are one number l.
 record Tops (w v u : ℕ) (t s : Bool) : Type 0 where
@@ -66,7 +66,7 @@ exchanged p l m false true hl hm = refl
 exchanged p l m false false hl hm = grind (arith, nat_tests, mul-one p, mul-zero p)
 
 pub slt_right : (xs ys : List Bool) → length xs ≡ length ys → 0 < length xs
-    → slt_b xs ys ≡ ltb (moved (length xs) (val xs)) (moved (length xs) (val ys))
+    → slt_bits xs ys ≡ ltb (moved (length xs) (val xs)) (moved (length xs) (val ys))
 slt_right [] ys e h = absurd (omega arith)
 slt_right (x ∷ xs) [] e h = absurd (omega (arith, e))
 slt_right (x ∷ xs) (y ∷ ys) e h =
@@ -85,14 +85,14 @@ equal_step true false true a b = grind (arith, nat_tests)
 equal_step false true true a b = grind (arith, nat_tests)
 equal_step false false true a b = grind (arith, nat_tests)
 
-equal_after : (xs ys : List Bool) (c : Bool) → length xs ≡ length ys → equal_b xs ys c ≡ (c && eqb (val xs) (val ys))
+equal_after : (xs ys : List Bool) (c : Bool) → length xs ≡ length ys → equal_bits xs ys c ≡ (c && eqb (val xs) (val ys))
 equal_after [] [] true e = refl
 equal_after [] [] false e = refl
 equal_after [] (y ∷ ys) c e = absurd (omega (arith, e))
 equal_after (x ∷ xs) [] c e = absurd (omega (arith, e))
 equal_after (x ∷ xs) (y ∷ ys) c e = equal_after xs ys (c && not (xor x y)) (omega (arith, e)) ∙ equal_step x y c (val xs) (val ys)
 
-pub equal_right : (xs ys : List Bool) → length xs ≡ length ys → equal_b xs ys true ≡ eqb (val xs) (val ys)
+pub equal_right : (xs ys : List Bool) → length xs ≡ length ys → equal_bits xs ys true ≡ eqb (val xs) (val ys)
 equal_right xs ys e = equal_after xs ys true e
 
 any_step : (x c : Bool) (a : ℕ) → ((c || x) || ltb 0 a) ≡ (c || ltb 0 (bit x + 2 * a))
@@ -100,16 +100,16 @@ any_step x true a = refl
 any_step true false a = grind (arith, nat_tests)
 any_step false false a = grind (arith, nat_tests)
 
-any_after : (xs : List Bool) (c : Bool) → any_b xs c ≡ (c || ltb 0 (val xs))
+any_after : (xs : List Bool) (c : Bool) → any_bits xs c ≡ (c || ltb 0 (val xs))
 any_after [] true = refl
 any_after [] false = refl
 any_after (x ∷ xs) c = any_after xs (c || x) ∙ any_step x c (val xs)
 
-pub any_right : (xs : List Bool) → any_b xs false ≡ ltb 0 (val xs)
+pub any_right : (xs : List Bool) → any_bits xs false ≡ ltb 0 (val xs)
 any_right xs = any_after xs false
 
 -- a choice by whether any bit is 1
-pub cond_any : {A : Type 0} (ts : List Bool) (a b : A) → cond (any_b ts false) a b ≡ pick (eqb (val ts) 0) b a
+pub cond_any : {A : Type 0} (ts : List Bool) (a b : A) → cond (any_bits ts false) a b ≡ pick (eqb (val ts) 0) b a
 cond_any ts a b = ap (λ t. cond t a b) (any_right ts) ∙ by_value (val ts)
   where
     by_value : (n : ℕ) → cond (ltb 0 n) a b ≡ pick (eqb n 0) b a
@@ -121,19 +121,19 @@ all_step : (x : Bool) (v p : ℕ) → 0 < p → (x && eqb v (p - 1)) ≡ eqb (bi
 all_step true v p h = grind (arith, nat_tests)
 all_step false v p h = sym (ne_eqb _ _ (λ e. omega (arith, e)))
 
-pub all_right : (xs : List Bool) → all_b xs ≡ eqb (val xs) (2 ^ length xs - 1)
+pub all_right : (xs : List Bool) → all_bits xs ≡ eqb (val xs) (2 ^ length xs - 1)
 all_right [] = refl
 all_right (x ∷ xs) =
     ap (λ t. x && t) (all_right xs)
     ∙ (all_step x (val xs) (2 ^ length xs) (pow_pos (length xs)) ∙ ap (λ p. eqb (bit x + 2 * val xs) (p - 1)) (sym (pow-suc 2 (length xs))))
 
 -- bit by bit
-pub length_zip : (f : Bool → Bool → Bool) (xs ys : List Bool) → length xs ≡ length ys → length (zip_b f xs ys) ≡ length xs
+pub length_zip : (f : Bool → Bool → Bool) (xs ys : List Bool) → length xs ≡ length ys → length (zip_bits f xs ys) ≡ length xs
 length_zip f [] ys e = refl
 length_zip f (x ∷ xs) [] e = absurd (omega (arith, e))
 length_zip f (x ∷ xs) (y ∷ ys) e = ap suc (length_zip f xs ys (omega (arith, e)))
 
-pub zip_cond : (b : Bool) (xs ys : List Bool) → length xs ≡ length ys → zip_b (cond b) xs ys ≡ cond b xs ys
+pub zip_cond : (b : Bool) (xs ys : List Bool) → length xs ≡ length ys → zip_bits (cond b) xs ys ≡ cond b xs ys
 zip_cond true [] [] e = refl
 zip_cond false [] [] e = refl
 zip_cond b [] (y ∷ ys) e = absurd (omega (arith, e))

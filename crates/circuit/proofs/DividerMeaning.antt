@@ -3,9 +3,10 @@ use Rattle.std.proofs.Common.{◌≡◌, ℕ, ◌≤◌, Bool, true, false, cond
 use Rattle.std.proofs.lemmas.Bool.{and_parts, and_from}
 use Rattle.clauses.specs.declared.literal.Literal.{Literal}
 use Rattle.clauses.specs.Flat.{Model}
-use Rattle.circuit.specs.Bits.{not_b, add_b, carry_b, ult_b, equal_b, any_b, mul_b, carries_b, all_b, divides_b}
-use Rattle.circuit.specs.Nets.{Net, low, negated, said}
-use Rattle.circuit.specs.Circuits.{add_n, less_n, any_n, equated_n, unless_n, divides_n}
+use Rattle.circuit.specs.Bits.{not_bits, add_bits, carry_bits, ult_bits, equal_bits, any_bits, mul_bits, carries_bits, all_bits, divides_bits}
+use Rattle.clauses.specs.Literals.{negated}
+use Rattle.circuit.specs.Nets.{Net, low, said}
+use Rattle.circuit.specs.Circuits.{add_net, less_net, any_net, equated_net, unless_net, divides_net}
 use Rattle.circuit.specs.Meaning.{truth_of, Agree, WordBelow, Whole, Defines, Spells}
 use Rattle.circuit.proofs.Models.{truth_agree}
 use Rattle.circuit.proofs.Nets.{defines_then, spells_itself, below_later, carries_later, spells_later, carries_low, carries_negated}
@@ -71,12 +72,12 @@ test_sees n xs ys qs rs bx by bq br F s t a =
 -- the parts of the divider's net from the end on: the bound of the remainder, the sum, and the whole
 abbrev bound_n : List Literal → List Literal → List Literal → Net → Net
 bound_n ys qs rs n =
-    let l = less_n rs ys n in
-    let a = any_n ys low l.0 in
-    unless_n a.1 qs (said (negated a.1 ∷ l.1 ∷ []) a.0)
+    let l = less_net rs ys n in
+    let a = any_net ys low l.0 in
+    unless_net a.1 qs (said (negated a.1 ∷ l.1 ∷ []) a.0)
 
 abbrev bound_b : List Bool → List Bool → List Bool → Bool
-bound_b ys qs rs = cond (any_b ys false) (ult_b rs ys) (all_b qs)
+bound_b ys qs rs = cond (any_bits ys false) (ult_bits rs ys) (all_bits qs)
 
 bound_asks : (ys qs rs : List Literal) {n : Net} → Whole n → WordBelow n.next ys → WordBelow n.next qs → WordBelow n.next rs
     → Asks n (bound_n ys qs rs n) (λ s. bound_b (map (truth_of s) ys) (map (truth_of s) qs) (map (truth_of s) rs))
@@ -88,10 +89,10 @@ bound_asks ys qs rs {n} w by bq br =
     let below = carries_later (l.defines.whole w) a.defines l.carries in
     let c = says_as (λ s h. ap₂ ◌||◌ (na.means s h) (below.means s h)) (says_either (d.whole w) na.below below.below) in
     let e =
-    says_as (λ s h. ap (λ x. x || all_b (map (truth_of s) qs)) (a.carries.means s (c.parts s h).0))
+    says_as (λ s h. ap (λ x. x || all_bits (map (truth_of s) qs)) (a.carries.means s (c.parts s h).0))
     (unless_says qs c.whole (below_said c (_ ∷ []) (a.carries.below, tt)).0 (below_said c qs (below_later d qs bq))) in
     asks_after_defined w d (test_sees n.next ys ys qs rs by by bq br (λ x y q r. bound_b y q r))
-    (asks_what_is_said (says_as (λ s h. either_bound (any_b (map (truth_of s) ys) false) (ult_b (map (truth_of s) rs) (map (truth_of s) ys)) (all_b (map (truth_of s) qs))) (says_then c e)))
+    (asks_what_is_said (says_as (λ s h. either_bound (any_bits (map (truth_of s) ys) false) (ult_bits (map (truth_of s) rs) (map (truth_of s) ys)) (all_bits (map (truth_of s) qs))) (says_then c e)))
   where
     either_bound : (x y z : Bool) → ((not x || y) && (x || z)) ≡ cond x y z
     either_bound true true z = refl
@@ -100,30 +101,30 @@ bound_asks ys qs rs {n} w by bq br =
 
 abbrev sum_n : List Literal → List Literal → List Literal → List Literal → List Literal → Net → Net
 sum_n xs ys qs rs ps n =
-    let s = add_n ps rs low n in
-    bound_n ys qs rs (equated_n s.1.0 xs (said (negated s.1.1 ∷ []) s.0))
+    let s = add_net ps rs low n in
+    bound_n ys qs rs (equated_net s.1.0 xs (said (negated s.1.1 ∷ []) s.0))
 
 abbrev sum_b : List Bool → List Bool → List Bool → List Bool → Bool
-sum_b xs ys qs rs = not (carry_b (mul_b ys qs) rs false) && (equal_b (add_b (mul_b ys qs) rs false) xs true && bound_b ys qs rs)
+sum_b xs ys qs rs = not (carry_bits (mul_bits ys qs) rs false) && (equal_bits (add_bits (mul_bits ys qs) rs false) xs true && bound_b ys qs rs)
 
 sum_asks : (xs ys qs rs : List Literal) {ps : List Literal} {n : Net} → Whole n → WordBelow n.next xs → WordBelow n.next ys → WordBelow n.next qs → WordBelow n.next rs
-    → Spells n ps (λ s. mul_b (map (truth_of s) ys) (map (truth_of s) qs))
+    → Spells n ps (λ s. mul_bits (map (truth_of s) ys) (map (truth_of s) qs))
     → Asks n (sum_n xs ys qs rs ps n) (λ s. sum_b (map (truth_of s) xs) (map (truth_of s) ys) (map (truth_of s) qs) (map (truth_of s) rs))
 sum_asks xs ys qs rs {n = n} w bx by bq br p =
     let sum = add_makes w p (spells_itself br) (carries_low w) in
     let d = sum.defines in
     let c = says_as (λ s h. ap not (sum.carries.means s h)) (says_not (d.whole w) sum.carries.below) in
     let total = spells_said c sum.spells in
-    let e = says_as (λ s h. ap (λ t. equal_b t (map (truth_of s) xs) true) (total.means s h)) (equated_says _ xs c.whole total.below (below_said c xs (below_later d xs bx))) in
+    let e = says_as (λ s h. ap (λ t. equal_bits t (map (truth_of s) xs) true) (total.means s h)) (equated_says _ xs c.whole total.below (below_said c xs (below_later d xs bx))) in
     let up : (ls : List Literal) → WordBelow n.next ls → WordBelow _ ls = λ ls b. below_said e ls (below_said c ls (below_later d ls b)) in
     asks_after_defined w d (test_sees n.next xs ys qs rs bx by bq br sum_b)
     (asks_after_said c (asks_after_said e (bound_asks ys qs rs e.whole (up ys by) (up qs bq) (up rs br))))
 
 pub divides_asks : (xs ys qs rs : List Literal) {ps ls : List Literal} {n : Net} → Whole n → WordBelow n.next xs → WordBelow n.next ys → WordBelow n.next qs → WordBelow n.next rs
-    → Spells n ps (λ s. mul_b (map (truth_of s) ys) (map (truth_of s) qs)) → Spells n ls (λ s. carries_b (map (truth_of s) ys) (map (truth_of s) qs))
-    → Asks n (divides_n xs ys qs rs ps ls n) (λ s. divides_b (map (truth_of s) xs) (map (truth_of s) ys) (map (truth_of s) qs) (map (truth_of s) rs))
+    → Spells n ps (λ s. mul_bits (map (truth_of s) ys) (map (truth_of s) qs)) → Spells n ls (λ s. carries_bits (map (truth_of s) ys) (map (truth_of s) qs))
+    → Asks n (divides_net xs ys qs rs ps ls n) (λ s. divides_bits (map (truth_of s) xs) (map (truth_of s) ys) (map (truth_of s) qs) (map (truth_of s) rs))
 divides_asks xs ys qs rs {ls = ls} {n = n} w bx by bq br p l =
-    let c = says_as (λ s h. ap (λ t. all_b (not_b t)) (l.means s h)) (denied_says ls w l.below) in
+    let c = says_as (λ s h. ap (λ t. all_bits (not_bits t)) (l.means s h)) (denied_says ls w l.below) in
     let e = apart_says ys qs c.whole (below_said c ys by) (below_said c qs bq) in
     let up : (ls : List Literal) → WordBelow n.next ls → WordBelow _ ls = λ ls b. below_said e ls (below_said c ls b) in
     asks_after_said c (asks_after_said e (sum_asks xs ys qs rs e.whole (up xs bx) (up ys by) (up qs bq) (up rs br) (spells_said e (spells_said c p))))

@@ -6,9 +6,9 @@ use Rattle.words.specs.Words.{do2}
 use Rattle.words.specs.declared.BinaryOp.TheVariants.{Udiv, Urem}
 use Rattle.clauses.specs.declared.literal.Literal.{Literal}
 use Rattle.clauses.specs.Flat.{Model}
-use Rattle.circuit.specs.Bits.{val, bits_of, mul_b, divides_b}
+use Rattle.circuit.specs.Bits.{val, bits_of, mul_bits, divides_bits}
 use Rattle.circuit.specs.Nets.{Net, wires, free}
-use Rattle.circuit.specs.Circuits.{divide_n}
+use Rattle.circuit.specs.Circuits.{divide_net}
 use Rattle.circuit.specs.Meaning.{truth_of, Agree, WordBelow, Whole, Spells, MakesWord}
 use Rattle.circuit.proofs.Numbers.{bits_of_val}
 use Rattle.circuit.proofs.Quotients.{divides_one, divides_right}
@@ -20,7 +20,7 @@ use Rattle.circuit.proofs.DividerMeaning.{asks_after_defined, word_agree, test_s
 use Rattle.circuit.proofs.NewWords.{free_whole, defines_choice, length_wires, wires_below, wires_agree, with_word, with_word_before, with_word_spells}
 
 -- words that pass the divider's test are those of quotient and remainder
-pub divides_words : (w : ℕ) (xs ys qs rs : List Bool) → length xs ≡ w → length ys ≡ w → length qs ≡ w → length rs ≡ w → divides_b xs ys qs rs ≡ true
+pub divides_words : (w : ℕ) (xs ys qs rs : List Bool) → length xs ≡ w → length ys ≡ w → length qs ≡ w → length rs ≡ w → divides_bits xs ys qs rs ≡ true
     → (qs ≡ bits_of w (do2 w Udiv (val xs) (val ys))) × (rs ≡ bits_of w (do2 w Urem (val xs) (val ys)))
 divides_words w xs ys qs rs lx ly lq lr h =
     let d = (divides_right xs ys qs rs (lx ∙ sym lq) (ly ∙ sym lq) (lr ∙ sym lq)).0 h in (
@@ -31,7 +31,7 @@ divides_words w xs ys qs rs lx ly lq lr h =
 -- of words for quotient and remainder, w variables each from v on, one choice passes the test
 module _ (w v : ℕ) (xs ys : List Literal) (lx : length xs ≡ w) (ly : length ys ≡ w) (bx : WordBelow v xs) (by : WordBelow v ys) where
   abbrev fits : (ℕ → Bool) → Bool
-  fits s = divides_b (map (truth_of s) xs) (map (truth_of s) ys) (map (truth_of s) (wires w v)) (map (truth_of s) (wires w (v + w)))
+  fits s = divides_bits (map (truth_of s) xs) (map (truth_of s) ys) (map (truth_of s) (wires w v)) (map (truth_of s) (wires w (v + w)))
 
   long : (s : ℕ → Bool) (ls : List Literal) → length ls ≡ w → length (map (truth_of s) ls) ≡ w
   long s ls e = length-map ls (truth_of s) ∙ e
@@ -47,8 +47,8 @@ module _ (w v : ℕ) (xs ys : List Literal) (lx : length xs ≡ w) (ly : length 
       let r : map (truth_of t) (wires w (v + w)) ≡ a.1 = with_word_spells p w (v + w) a.1 (a.3 ∙ long s xs lx) in (
         t,
         (λ u l. sym (g u l)),
-        ap₂ (λ x y. divides_b x y (map (truth_of t) (wires w v)) (map (truth_of t) (wires w (v + w)))) (word_agree v t s g xs bx) (word_agree v t s g ys by)
-            ∙ (ap₂ (divides_b (map (truth_of s) xs) (map (truth_of s) ys)) q r ∙ a.4),
+        ap₂ (λ x y. divides_bits x y (map (truth_of t) (wires w v)) (map (truth_of t) (wires w (v + w)))) (word_agree v t s g xs bx) (word_agree v t s g ys by)
+            ∙ (ap₂ (divides_bits (map (truth_of s) xs) (map (truth_of s) ys)) q r ∙ a.4),
       )
 
   fits_words : (s : ℕ → Bool) → fits s ≡ true
@@ -71,8 +71,8 @@ module _ (w v : ℕ) (xs ys : List Literal) (lx : length xs ≡ w) (ly : length 
       ]
 
 pub divide_makes : {n : Net} {w : ℕ} {xs ys : List Literal} {f g : (ℕ → Bool) → List Bool} → Whole n → length xs ≡ w → length ys ≡ w → Spells n xs f → Spells n ys g
-    → MakesWord n (divide_n w xs ys n)
-    (λ s. bits_of w (do2 w Udiv (val (f s)) (val (g s))) ++ (bits_of w (do2 w Urem (val (f s)) (val (g s))) ++ mul_b (g s) (bits_of w (do2 w Udiv (val (f s)) (val (g s))))))
+    → MakesWord n (divide_net w xs ys n)
+    (λ s. bits_of w (do2 w Udiv (val (f s)) (val (g s))) ++ (bits_of w (do2 w Urem (val (f s)) (val (g s))) ++ mul_bits (g s) (bits_of w (do2 w Udiv (val (f s)) (val (g s))))))
 divide_makes {n} {w} {xs} {ys} {f} {g} whole lx ly x y =
     let v = n.next in
     let m = free (w + w) n in
@@ -84,9 +84,9 @@ divide_makes {n} {w} {xs} {ys} {f} {g} whole lx ly x y =
     let p = product_makes {n = m} wm (spells_itself by) (spells_itself bq) in
     let up = below_later p.defines in
     let a = divides_asks xs ys (wires w v) (wires w (v + w)) (p.defines.whole wm) (up xs bx) (up ys by) (up (wires w v) bq) (up (wires w (v + w)) br) p.first p.second in
-    let b = asks_after_defined wm p.defines (test_sees m.next xs ys (wires w v) (wires w (v + w)) bx by bq br divides_b) a in
+    let b = asks_after_defined wm p.defines (test_sees m.next xs ys (wires w v) (wires w (v + w)) bx by bq br divides_bits) a in
     let d = defines_choice (w + w) whole b (fits_some w v xs ys lx ly x.below y.below) (fits_one w v xs ys lx ly x.below y.below) in
-    let is : (s : ℕ → Bool) → Model s (divide_n w xs ys n).0.out
+    let is : (s : ℕ → Bool) → Model s (divide_net w xs ys n).0.out
     → (map (truth_of s) (wires w v) ≡ bits_of w (do2 w Udiv (val (f s)) (val (g s)))) × (map (truth_of s) (wires w (v + w)) ≡ bits_of w (do2 w Urem (val (f s)) (val (g s)))) =
     λ s h.
     let k = d.keeps s whole h in
@@ -101,6 +101,6 @@ divide_makes {n} {w} {xs} {ys} {f} {g} whole lx ly x y =
           (spells_append (record { below = word_lift m.next _ b.grows (wires w (v + w)) br; means = λ s h. (is s h).1 })
           (record {
             below = word_lift _ _ a.grows _ p.first.below;
-            means = λ s h. p.first.means s (a.parts s h).0 ∙ ap₂ mul_b (y.means s (d.keeps s whole h)) (is s h).0;
+            means = λ s h. p.first.means s (a.parts s h).0 ∙ ap₂ mul_bits (y.means s (d.keeps s whole h)) (is s h).0;
           }));
     }

@@ -1,5 +1,5 @@
 -- Each gate makes a literal that carries its operation, whether that is a new variable or a literal in place of one.
-use Rattle.std.proofs.Common.{◌≡◌, ℕ, suc, Bool, true, false, cond, not, ◌&&◌, ◌||◌, List, sym, refl, ap, ◌∙◌, ap₂, arith}
+use Rattle.std.proofs.Common.{Option, ◌≡◌, ℕ, suc, Bool, true, false, cond, not, ◌&&◌, ◌||◌, List, sym, refl, ap, ◌∙◌, ap₂, arith}
 use mathlib.Core.Bool.{and-true, and_self, and-false, not-and_self}
 use Rattle.std.proofs.lemmas.Bool.{eqb-true, and_parts}
 use Rattle.words.specs.Words.{xor}
@@ -7,8 +7,9 @@ use Rattle.clauses.specs.declared.literal.Literal.{Literal}
 use Rattle.clauses.specs.Flat.{lit_truth, Model}
 use Rattle.circuit.specs.declared.gates.Folded.{Folded}
 use Rattle.circuit.specs.Bits.{maj}
-use Rattle.circuit.specs.Nets.{Net, high, low, negated, same, fresh}
-use Rattle.circuit.specs.Gates.{and_rows, xor_rows, majority_rows, choice_rows, gate, wire_or, smaller_or, and_n, or_n, xor_n, majority_n, choice_n}
+use Rattle.clauses.specs.Literals.{negated}
+use Rattle.circuit.specs.Nets.{Net, high, low, same, fresh}
+use Rattle.circuit.specs.Gates.{and_rows, xor_rows, majority_rows, choice_rows, gate, wire_or, smaller_or, and_net, or_net, xor_net, majority_net, choice_net}
 use Rattle.circuit.specs.Meaning.{truth_of, Below, Whole, Carries, Makes}
 use Rattle.circuit.proofs.Models.{every, ClausesBelow, truth_negated, below_negated, below_lift, truth_agree}
 use Rattle.circuit.proofs.Nets.{carries_high, carries_low, carries_negated, carries_as, makes_as, makes_none, both_same, fresh_below, gate_makes}
@@ -105,9 +106,9 @@ module _ {n : Net} (w : Whole n) where
         ((o', (lift ca, (lift cb, tt))), ((o', (na, (nb, tt))), ((o, (na, (lift cb, tt))), ((o, (lift ca, (nb, tt))), tt))))
         (λ s. xor_rows_lem s (fresh n) a b)
 
-    pub and_makes : Makes n (and_n a b n) (λ s. f s && g s)
+    pub and_makes : Makes n (and_net a b n) (λ s. f s && g s)
     and_makes =
-        let P : Folded → Type 0 = λ k. Makes n (wire_or k (gate (λ o. and_rows o a b) n) n) (λ s. f s && g s) in
+        let P : Option Literal → Type 0 = λ k. Makes n (wire_or k (gate (λ o. and_rows o a b) n) n) (λ s. f s && g s) in
         by_test P (same a low) (λ e. wire (carries_low w) (λ s k. rw (same_carries ca (carries_low w) e s k)))
         (by_test P (same b low) (λ e. wire (carries_low w) (λ s k. rw (same_carries cb (carries_low w) e s k) (sym (and-false (f s)))))
         (by_test P (same a high) (λ e. wire cb (λ s k. rw (same_carries ca (carries_high w) e s k)))
@@ -116,9 +117,9 @@ module _ {n : Net} (w : Whole n) where
         (by_test P (same a (negated b)) (λ e. wire (carries_low w) (λ s k. rw (same_carries ca (carries_negated cb) e s k) (sym (not-and_self (g s)))))
         and_gate)))))
 
-    pub xor_makes : Makes n (xor_n a b n) (λ s. xor (f s) (g s))
+    pub xor_makes : Makes n (xor_net a b n) (λ s. xor (f s) (g s))
     xor_makes =
-        let P : Folded → Type 0 = λ k. Makes n (wire_or k (gate (λ o. xor_rows o a b) n) n) (λ s. xor (f s) (g s)) in
+        let P : Option Literal → Type 0 = λ k. Makes n (wire_or k (gate (λ o. xor_rows o a b) n) n) (λ s. xor (f s) (g s)) in
         by_test P (same a low) (λ e. wire cb (λ s k. rw (same_carries ca (carries_low w) e s k)))
         (by_test P (same b low) (λ e. wire ca (λ s k. rw (same_carries cb (carries_low w) e s k) (at_all (λ x _ _ _. x) (λ x _ _ _. xor x false) refl (f s) true true true)))
         (by_test P (same a high) (λ e. wire (carries_negated cb) (λ s k. rw (same_carries ca (carries_high w) e s k)))
@@ -127,7 +128,7 @@ module _ {n : Net} (w : Whole n) where
         (by_test P (same a (negated b)) (λ e. wire (carries_high w) (λ s k. rw (same_carries ca (carries_negated cb) e s k) (at_all (λ _ _ _ _. true) (λ x _ _ _. xor (not x) x) refl (g s) true true true)))
         xor_gate)))))
 
-  pub or_makes : {a b : Literal} {f g : (ℕ → Bool) → Bool} → Carries n a f → Carries n b g → Makes n (or_n a b n) (λ s. f s || g s)
+  pub or_makes : {a b : Literal} {f g : (ℕ → Bool) → Bool} → Carries n a f → Carries n b g → Makes n (or_net a b n) (λ s. f s || g s)
   or_makes {f = f} {g = g} ca cb =
       let m = and_makes (carries_negated ca) (carries_negated cb) in
       record {
@@ -158,9 +159,9 @@ module _ {n : Net} (w : Whole n) where
         ((na, (o', (lift cb, tt))), ((na, (o, (nb, tt))), ((lift ca, (o', (lift cc, tt))), ((lift ca, (o, (nc, tt))), tt))))
         (λ s. choice_rows_lem s (fresh n) a b c)
 
-    pub majority_makes : Makes n (majority_n a b c n) (λ s. maj (f s) (g s) (h s))
+    pub majority_makes : Makes n (majority_net a b c n) (λ s. maj (f s) (g s) (h s))
     majority_makes =
-        let P : Folded → Type 0 = λ k. Makes n (smaller_or k (gate (λ o. majority_rows o a b c) n) n) (λ s. maj (f s) (g s) (h s)) in
+        let P : Option Folded → Type 0 = λ k. Makes n (smaller_or k (gate (λ o. majority_rows o a b c) n) n) (λ s. maj (f s) (g s) (h s)) in
         by_test P (same a low) (λ e. makes_as w (λ s k. rw (same_carries ca (carries_low w) e s k)) (and_makes cb cc))
         (by_test P (same a high) (λ e. makes_as w (λ s k. rw (same_carries ca (carries_high w) e s k)) (or_makes cb cc))
         (by_test P (same b low) (λ e. makes_as w (λ s k. rw (same_carries cb (carries_low w) e s k) (at_all (λ x y _ _. x && y) (λ x y _ _. maj x false y) refl (f s) (h s) true true)) (and_makes ca cc))
@@ -171,9 +172,9 @@ module _ {n : Net} (w : Whole n) where
         (by_test P (same a (negated b)) (λ e. wire cc (λ s k. rw (same_carries ca (carries_negated cb) e s k) (at_all (λ x y _ _. y) (λ x y _ _. maj (not x) x y) refl (g s) (h s) true true)))
         majority_gate)))))))
 
-    pub choice_makes : Makes n (choice_n a b c n) (λ s. cond (f s) (g s) (h s))
+    pub choice_makes : Makes n (choice_net a b c n) (λ s. cond (f s) (g s) (h s))
     choice_makes =
-        let P : Folded → Type 0 = λ k. Makes n (smaller_or k (gate (λ o. choice_rows o a b c) n) n) (λ s. cond (f s) (g s) (h s)) in
+        let P : Option Folded → Type 0 = λ k. Makes n (smaller_or k (gate (λ o. choice_rows o a b c) n) n) (λ s. cond (f s) (g s) (h s)) in
         by_test P (same a high) (λ e. wire cb (λ s k. rw (same_carries ca (carries_high w) e s k)))
         (by_test P (same a low) (λ e. wire cc (λ s k. rw (same_carries ca (carries_low w) e s k)))
         (by_test P (same b c) (λ e. wire cb (λ s k. rw (same_carries cb cc e s k) (at_all (λ x y _ _. y) (λ x y _ _. cond x y y) refl (f s) (h s) true true)))

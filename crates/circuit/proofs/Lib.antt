@@ -25,9 +25,9 @@ pub mod Circuits
 pub mod Writing
 pub mod Rows
 pub mod Loops
-pub mod Moved
 pub mod Steps
-pub mod Compared
+pub mod Topped
 pub mod ProductLoops
 pub mod Clauses
 pub mod Filled
+pub mod Moved

@@ -6,7 +6,8 @@ use Rattle.clauses.specs.Clauses.{signed}
 use Rattle.clauses.specs.Flat.{lit_truth, Meets, Model, Well}
 use Rattle.clauses.proofs.Truth.{even_truth, odd_truth, literal_meets, meets_literal}
 use Rattle.clauses.proofs.Forms.{literal_well}
-use Rattle.circuit.specs.Nets.{Net, negated, clause, said, said_all}
+use Rattle.clauses.specs.Literals.{negated}
+use Rattle.circuit.specs.Nets.{Net, clause, said, said_all}
 use Rattle.circuit.specs.Meaning.{truth_of, Agree, Below, AllBelow, WordBelow}
 
 -- whether a clause, and clauses, are met

@@ -1,57 +1,55 @@
--- The bits of a word that is moved.
-use Rattle.std.proofs.Common.{◌≡◌, ℕ, zero, suc, ◌+◌, ◌-◌, ◌<◌, ◌≤◌, Bool, true, false, ltb, List, [], ◌∷◌, length, get_or, sym, refl, ap, ◌∙◌, arith}
-use Rattle.std.proofs.lemmas.List.{get_or_default, get_or_past, ext_get_or}
-use Rattle.std.proofs.lemmas.Bool.{lt-ltb, le-ltb, cond-true, cond-false}
+-- A word that is moved, as it is written: what stays is copied between what comes in.
+use Rattle.std.proofs.Common.{◌≡◌, ℕ, ◌+◌, ◌-◌, ◌<◌, ◌≤◌, List, [], ◌++◌, length, get_or, take, drop, replicate, sym, ap, ◌∙◌, inl, inr, append-nil, length-append, length-take, length-drop, arith}
+use Rattle.std.proofs.Math.ListN.{get_or-append}
+use Rattle.std.proofs.lemmas.List.{get_or_past, ext_get_or, get_or-take, get_or-drop, get_or-replicate, get_or-append_right, take-replicate, drop-replicate, length-replicate, take_rest, drop_all}
+use Rattle.std.proofs.lemmas.Bool.{cases_lt}
+use borrow.Rule.Slice.PartMut.{put_mid, post_of}
 use Rattle.clauses.specs.declared.literal.Literal.{Literal}
-use Rattle.circuit.specs.Bits.{fill, up_one, down_one, table, moved}
+use Rattle.circuit.specs.declared.shifting.Direction.{Direction}
+use Rattle.circuit.specs.declared.shifting.Direction.TheVariants.{Left, Right}
+use Rattle.circuit.specs.Bits.{moved}
+use Rattle.circuit.proofs.Moving.{length_moved, get_d_moved, moved_out, up_below, up_from}
+use Rattle.circuit.proofs.Filled.{fill_replicate}
 
-table_length : (f : ℕ → Literal) (n s : ℕ) → length (table f n s) ≡ n
-table_length f zero s = refl
-table_length f (suc n) s = ap suc (table_length f n (suc s))
+joined_left : (b : Literal) (k w : ℕ) (xs : List Literal) → length xs ≡ w → k < w → replicate k b ++ take (w - k) xs ≡ moved Left b k xs
+joined_left b k w xs e h =
+    let long = length_moved Left b k xs in
+    let front = length-replicate k b in
+    let word : length (replicate k b ++ take (w - k) xs) ≡ w = omega (arith, length-append (replicate k b) (take (w - k) xs), front, length-take (w - k) xs) in
+    ext_get_or b (replicate k b ++ take (w - k) xs) (moved Left b k xs) (omega arith)
+    (λ i l.
+    elim (cases_lt i k) [
+      | inl m ↦ get_or-append (replicate k b) (take (w - k) xs) b i (omega arith) ∙ get_or-replicate k i b b m ∙ sym (get_d_moved Left b k xs i (omega arith) ∙ up_below b k i xs m)
+      | inr m ↦ get_or-append_right (replicate k b) (take (w - k) xs) k i b front m ∙ get_or-take (w - k) xs (i - k) b (omega arith) ∙ sym (get_d_moved Left b k xs i (omega arith) ∙ up_from b k i xs m)
+    ])
 
-table_at : (f : ℕ → Literal) (n s i : ℕ) (d : Literal) → i < n → get_or (table f n s) i d ≡ f (s + i)
-table_at f zero s i d h = let z : ⊥ = omega arith in absurd z
-table_at f (suc n) s zero d h = let e : s ≡ s + 0 = omega arith in ap f e
-table_at f (suc n) s (suc i) d h = let e : suc s + i ≡ s + suc i = omega arith in table_at f n (suc s) i d (omega arith) ∙ ap f e
+pub moved_left : (b : Literal) (k w : ℕ) (xs ys : List Literal) → length xs ≡ w → k < w → ys ≡ take (w - k) xs → put_mid k (length (replicate w b) - k) (replicate w b) ys ≡ moved Left b k xs
+moved_left b k w xs ys e h is =
+    let m = length (replicate w b) - k in
+    let back : post_of k m (replicate w b) ≡ [] = drop_all m (drop k (replicate w b)) (omega (arith, length-drop k (replicate w b))) in
+    ap (λ l. l ++ (ys ++ post_of k m (replicate w b))) (take-replicate k w b (omega arith))
+    ∙ ap (λ l. replicate k b ++ (ys ++ l)) back ∙ ap (λ l. replicate k b ++ l) (append-nil ys ∙ is)
+    ∙ joined_left b k w xs e h
 
-pub moved_length : (left : Bool) (b : Literal) (k : ℕ) (xs : List Literal) → length (moved left b k xs) ≡ length xs
-moved_length true b k xs = table_length (up_one b k xs) (length xs) 0
-moved_length false b k xs = table_length (down_one b k xs) (length xs) 0
+joined_right : (b : Literal) (k w : ℕ) (xs : List Literal) → length xs ≡ w → k < w → drop k xs ++ replicate k b ≡ moved Right b k xs
+joined_right b k w xs e h =
+    let long = length_moved Right b k xs in
+    let back = length-replicate k b in
+    let front : length (drop k xs) ≡ w - k = length-drop k xs ∙ ap (λ n. n - k) e in
+    let word : length (drop k xs ++ replicate k b) ≡ w = omega (arith, length-append (drop k xs) (replicate k b), back, front) in
+    ext_get_or b (drop k xs ++ replicate k b) (moved Right b k xs) (omega arith)
+    (λ i l.
+    elim (cases_lt i (w - k)) [
+      | inl m ↦ get_or-append (drop k xs) (replicate k b) b i (omega arith) ∙ get_or-drop k xs i b ∙ ap (λ n. get_or xs n b) (omega arith) ∙ sym (get_d_moved Right b k xs i (omega arith))
+      | inr m ↦ get_or-append_right (drop k xs) (replicate k b) (w - k) i b front m ∙ get_or-replicate k (i - (w - k)) b b (omega arith) ∙ sym (get_d_moved Right b k xs i (omega arith) ∙ get_or_past xs (i + k) b (omega arith))
+    ])
 
-left_at : (b d : Literal) (k : ℕ) (xs : List Literal) (i : ℕ) → i < length xs → get_or (moved true b k xs) i d ≡ up_one b k xs i
-left_at b d k xs i h = let e : 0 + i ≡ i = omega arith in table_at (up_one b k xs) (length xs) 0 i d h ∙ ap (up_one b k xs) e
+pub moved_right : (b : Literal) (k w : ℕ) (xs ys : List Literal) → length xs ≡ w → k < w → ys ≡ take (length xs - k) (drop k xs) → ys ++ post_of 0 (w - k - 0) (replicate w b) ≡ moved Right b k xs
+moved_right b k w xs ys e h is =
+    let n : w - (w - k - 0) ≡ k = omega arith in
+    ap (λ l. l ++ post_of 0 (w - k - 0) (replicate w b)) (is ∙ take_rest xs k)
+    ∙ ap (λ l. drop k xs ++ l) (drop-replicate (w - k - 0) w b ∙ ap (λ j. replicate j b) n)
+    ∙ joined_right b k w xs e h
 
-right_at : (b d : Literal) (k : ℕ) (xs : List Literal) (i : ℕ) → i < length xs → get_or (moved false b k xs) i d ≡ down_one b k xs i
-right_at b d k xs i h = let e : 0 + i ≡ i = omega arith in table_at (down_one b k xs) (length xs) 0 i d h ∙ ap (down_one b k xs) e
-
--- what the code reads, in each case
-pub left_in : (b d : Literal) (v : Bool) (k : ℕ) (xs : List Literal) (i : ℕ) → v ≡ true → i < length xs → i < k → b ≡ get_or (moved v b k xs) i d
-left_in b d v k xs i t h l = sym (ap (λ u. get_or (moved u b k xs) i d) t ∙ left_at b d k xs i h ∙ cond-true (ltb i k) b (get_or xs (i - k) b) (lt-ltb i k l))
-
-pub left_from : (b d : Literal) (v : Bool) (k : ℕ) (xs : List Literal) (i : ℕ) → v ≡ true → i < length xs → k ≤ i → get_or xs (i - k) d ≡ get_or (moved v b k xs) i d
-left_from b d v k xs i t h l = sym (ap (λ u. get_or (moved u b k xs) i d) t ∙ left_at b d k xs i h ∙ cond-false (ltb i k) b (get_or xs (i - k) b) (le-ltb i k l) ∙ get_or_default xs (i - k) b d (omega arith))
-
-pub right_from : (b d : Literal) (v : Bool) (k : ℕ) (xs : List Literal) (i : ℕ) → v ≡ false → i < length xs → i + k < length xs → get_or xs (i + k) d ≡ get_or (moved v b k xs) i d
-right_from b d v k xs i t h l = sym (ap (λ u. get_or (moved u b k xs) i d) t ∙ right_at b d k xs i h ∙ get_or_default xs (i + k) b d l)
-
-pub right_in : (b d : Literal) (v : Bool) (k : ℕ) (xs : List Literal) (i : ℕ) → v ≡ false → i < length xs → length xs ≤ i + k → b ≡ get_or (moved v b k xs) i d
-right_in b d v k xs i t h l = sym (ap (λ u. get_or (moved u b k xs) i d) t ∙ right_at b d k xs i h ∙ get_or_past xs (i + k) b l)
-
-pub fill_length : (b : Literal) (xs : List Literal) → length (fill b xs) ≡ length xs
-fill_length b [] = refl
-fill_length b (x ∷ xs) = ap suc (fill_length b xs)
-
-pub fill_at : (b d : Literal) (xs : List Literal) (i : ℕ) → i < length xs → get_or (fill b xs) i d ≡ b
-fill_at b d [] i h = let z : ⊥ = omega arith in absurd z
-fill_at b d (x ∷ xs) zero h = refl
-fill_at b d (x ∷ xs) (suc i) h = fill_at b d xs i (omega arith)
-
--- moved by the whole width nothing is left
-moved_past_at : (left : Bool) (b : Literal) (k : ℕ) (xs : List Literal) (i : ℕ) → length xs ≤ k → i < length xs → get_or (moved left b k xs) i b ≡ b
-moved_past_at true b k xs i l h = sym (left_in b b true k xs i refl h (omega arith))
-moved_past_at false b k xs i l h = sym (right_in b b false k xs i refl h (omega arith))
-
-pub moved_past : (left : Bool) (b : Literal) (k : ℕ) (xs : List Literal) → length xs ≤ k → moved left b k xs ≡ fill b xs
-moved_past left b k xs l =
-    let long = moved_length left b k xs in
-    ext_get_or b (moved left b k xs) (fill b xs) (long ∙ sym (fill_length b xs)) (λ i h. moved_past_at left b k xs i l (omega arith) ∙ sym (fill_at b b xs i (omega arith)))
+pub moved_away : (d : Direction) (b : Literal) (k w : ℕ) (xs : List Literal) → length xs ≡ w → w ≤ k → replicate w b ≡ moved d b k xs
+moved_away d b k w xs e h = sym (moved_out d b k xs (omega arith) ∙ fill_replicate b xs ∙ ap (λ n. replicate n b) e)

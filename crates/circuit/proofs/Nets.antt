@@ -5,7 +5,8 @@ use Rattle.words.specs.Words.{xor}
 use Rattle.clauses.specs.declared.literal.Literal.{Literal}
 use Rattle.clauses.specs.Flat.{Model}
 use Rattle.clauses.proofs.Truth.{even_truth}
-use Rattle.circuit.specs.Nets.{Net, high, low, negated, fresh, taken}
+use Rattle.clauses.specs.Literals.{negated}
+use Rattle.circuit.specs.Nets.{Net, high, low, fresh, taken}
 use Rattle.circuit.specs.Gates.{gate}
 use Rattle.circuit.specs.Meaning.{truth_of, Agree, Below, AllBelow, WordBelow, Whole, Defines, Carries, Spells, Makes, MakesWord, MakesBoth}
 use Rattle.circuit.proofs.Models.{every, ClausesBelow, truth_negated, below_negated, below_lift, word_lift, all_lift, all_parts, all_both, all_well, said_all_below, said_all_next, meets_agree}

@@ -3,7 +3,7 @@ use Rattle.std.proofs.Common.{◌≡◌, ℕ, zero, suc, ◌+◌, ◌*◌, ◌/�
 use lib.Arith.{mod-mul}
 use native.Mathlib.Nat.{div-div-eq-div-mul}
 use Rattle.words.specs.Words.{odd}
-use Rattle.circuit.specs.Bits.{bit, val, bits_of, not_b, fill}
+use Rattle.circuit.specs.Bits.{bit, val, bits_of, not_bits, fill}
 
 pub bit_lt : (b : Bool) → bit b < 2
 bit_lt true = omega arith
@@ -85,10 +85,10 @@ pub val_ones : (xs : List Bool) → val (fill true xs) + 1 ≡ 2 ^ length xs
 val_ones [] = refl
 val_ones (x ∷ xs) = rw pow-suc (omega (arith, val_ones xs))
 
-pub length_not : (xs : List Bool) → length (not_b xs) ≡ length xs
+pub length_not : (xs : List Bool) → length (not_bits xs) ≡ length xs
 length_not [] = refl
 length_not (x ∷ xs) = ap suc (length_not xs)
 
-pub val_not : (xs : List Bool) → val (not_b xs) + val xs + 1 ≡ 2 ^ length xs
+pub val_not : (xs : List Bool) → val (not_bits xs) + val xs + 1 ≡ 2 ^ length xs
 val_not [] = refl
 val_not (x ∷ xs) = rw pow-suc (omega (arith, val_not xs, bit_not x))

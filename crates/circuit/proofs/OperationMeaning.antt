@@ -1,5 +1,7 @@
 -- The circuit of each operation makes a word that spells what the operation's circuit on bits gives.
-use Rattle.std.proofs.Common.{◌≡◌, ℕ, Bool, true, false, List, length, sym, ap, ◌∙◌}
+use Rattle.std.proofs.Common.{◌≡◌, ℕ, Bool, false, List, length, sym, ap, ◌∙◌}
+use Rattle.circuit.specs.declared.shifting.Direction.{Direction}
+use Rattle.circuit.specs.declared.shifting.Direction.TheVariants.{Left, Right}
 use lib.ListN.{length-map}
 use Rattle.words.specs.declared.UnaryOp.{UnaryOp}
 use Rattle.words.specs.declared.UnaryOp.TheVariants.{Not, Neg}
@@ -8,9 +10,9 @@ use Rattle.words.specs.declared.BinaryOp.TheVariants.{Add, Sub, Mul, Udiv, Urem,
 use Rattle.clauses.specs.declared.literal.Literal.{Literal}
 use Rattle.clauses.specs.Flat.{Model}
 use Rattle.circuit.specs.declared.gates.Bitwise.TheVariants.{Conjunction, Disjunction, Exclusive}
-use Rattle.circuit.specs.Bits.{flag, shift_b, unary_b, binary_b}
+use Rattle.circuit.specs.Bits.{flag, shift_bits, unary_bits, binary_bits}
 use Rattle.circuit.specs.Nets.{Net}
-use Rattle.circuit.specs.Circuits.{shift_n, unary_n, flagged, binary_n}
+use Rattle.circuit.specs.Circuits.{shift_net, unary_net, flagged, binary_net}
 use Rattle.circuit.specs.Meaning.{truth_of, Whole, Carries, Spells, Makes, MakesWord, MakesBoth}
 use Rattle.circuit.proofs.Nets.{spells_later, carries_high, carries_low, makes_word_as, makes_word_none}
 use Rattle.circuit.proofs.WireMeaning.{spells_inverted, spells_fill, spells_flag, spells_topped, carries_top_of}
@@ -23,18 +25,18 @@ length_spelled {ls = ls} w s h = sym (ap length (w.means s h)) ∙ length-map ls
 sum_word : {n : Net} {r : Net × (List Literal × Literal)} {f : (ℕ → Bool) → List Bool} {g : (ℕ → Bool) → Bool} → MakesBoth n r f g → MakesWord n (r.0, r.1.0) f
 sum_word m = record { defines = m.defines; spells = m.spells }
 
-pub unary_makes : {n : Net} {xs : List Literal} {f : (ℕ → Bool) → List Bool} (o : UnaryOp) → Whole n → Spells n xs f → MakesWord n (unary_n o xs n) (λ s. unary_b o (f s))
+pub unary_makes : {n : Net} {xs : List Literal} {f : (ℕ → Bool) → List Bool} (o : UnaryOp) → Whole n → Spells n xs f → MakesWord n (unary_net o xs n) (λ s. unary_bits o (f s))
 unary_makes Not w x = makes_word_none (spells_inverted x)
 unary_makes Neg w x = sum_word (add_makes w (spells_fill (carries_low w) x) (spells_inverted x) (carries_high w))
 
 module _ {n : Net} {xs ys : List Literal} {f g : (ℕ → Bool) → List Bool} (w : Whole n) (x : Spells n xs f) (y : Spells n ys g) where
-  barrel : {b : Literal} {h : (ℕ → Bool) → Bool} (left : Bool) → Carries n b h → MakesWord n (shift_n left b (length xs) 1 xs ys n) (λ s. shift_b left (h s) (length (f s)) 1 (f s) (g s))
-  barrel {h = h} left c = makes_word_as w (λ s k. ap (λ v. shift_b left (h s) v 1 (f s) (g s)) (sym (length_spelled x s k))) (shift_makes left (length xs) 1 w c x y)
+  barrel : {b : Literal} {h : (ℕ → Bool) → Bool} (direction : Direction) → Carries n b h → MakesWord n (shift_net direction b (length xs) 1 xs ys n) (λ s. shift_bits direction (h s) (length (f s)) 1 (f s) (g s))
+  barrel {h = h} direction c = makes_word_as w (λ s k. ap (λ v. shift_bits direction (h s) v 1 (f s) (g s)) (sym (length_spelled x s k))) (shift_makes direction (length xs) 1 w c x y)
 
   flagged_makes : {r : Net × Literal} {h : (ℕ → Bool) → Bool} → Makes n r h → MakesWord n (flagged xs r) (λ s. flag false (h s) (f s))
   flagged_makes m = record { defines = m.defines; spells = spells_flag (carries_low (m.defines.whole w)) m.carries (spells_later w m.defines x) }
 
-  pub binary_makes : (o : BinaryOp) → MakesWord n (binary_n o xs ys n) (λ s. binary_b o (f s) (g s))
+  pub binary_makes : (o : BinaryOp) → MakesWord n (binary_net o xs ys n) (λ s. binary_bits o (f s) (g s))
   binary_makes Add = sum_word (add_makes w x y (carries_low w))
   binary_makes Sub = sum_word (add_makes w x (spells_inverted y) (carries_high w))
   binary_makes Mul = let m = product_makes w x y in record { defines = m.defines; spells = m.first }
@@ -43,9 +45,9 @@ module _ {n : Net} {xs ys : List Literal} {f g : (ℕ → Bool) → List Bool} (
   binary_makes And = bitwise_makes Conjunction w x y
   binary_makes Or = bitwise_makes Disjunction w x y
   binary_makes Xor = bitwise_makes Exclusive w x y
-  binary_makes Shl = barrel true (carries_low w)
-  binary_makes Lshr = barrel false (carries_low w)
-  binary_makes Ashr = barrel false (carries_top_of (carries_low w) x)
+  binary_makes Shl = barrel Left (carries_low w)
+  binary_makes Lshr = barrel Right (carries_low w)
+  binary_makes Ashr = barrel Right (carries_top_of (carries_low w) x)
   binary_makes Comp = flagged_makes (equal_makes w x y (carries_high w))
   binary_makes Ult = flagged_makes (less_makes w x y)
   binary_makes Slt = flagged_makes (less_makes w (spells_topped x y) (spells_topped y x))

@@ -3,13 +3,12 @@ use Rattle.std.proofs.Common.{◌≡◌, ℕ, zero, suc, ◌+◌, ◌-◌, ◌<�
 use borrow.Rule.Slice.PartMut.{put_mid}
 use Rattle.std.proofs.lemmas.List.{take_all, take_rest, drop_all, drop_at, drop-drop, drop-set, length-take-le, length-drop}
 use Rattle.clauses.specs.declared.literal.Literal.{Literal}
-use Rattle.circuit.specs.declared.builder.Builder.{Builder}
 use Rattle.circuit.specs.Bits.{lower}
 use Rattle.circuit.specs.Nets.{Net, low}
-use Rattle.circuit.specs.Gates.{and_n}
-use Rattle.circuit.specs.Circuits.{row_n, product_n}
-use Rattle.circuit.specs.Parts.{product_row_n}
-use Rattle.circuit.specs.Built.{built, Wrote}
+use Rattle.circuit.specs.Gates.{and_net}
+use Rattle.circuit.specs.Circuits.{row_net, product_net}
+use Rattle.circuit.specs.Parts.{product_row_net}
+use Rattle.circuit.specs.Built.{Written, Wrote}
 use Rattle.circuit.proofs.Growing.{Grows, grows_same, grows_then}
 use Rattle.circuit.proofs.Circuits.{product_row_grows}
 use Rattle.circuit.proofs.Steps.{blank}
@@ -28,7 +27,7 @@ pub first_written : (xs ys : List Literal) (v : Literal) (m : ℕ) → 0 < lengt
 first_written [] ys v m h l = let z : ⊥ = omega arith in absurd z
 first_written (x ∷ xs) ys v m h l = ap (λ r. v ∷ (ys ++ r)) (drop_all m xs (omega arith)) ∙ ap (λ r. v ∷ r) (append-nil ys)
 
-pub product_row_is : (x : Literal) (ys qs : List Literal) (n : Net) → 0 < length ys → let p = and_n x (get_or ys 0 blank) n in let r = row_n x (drop 1 ys) qs low p.0 in product_row_n x ys qs n ≡ (r.0, (p.1 ∷ r.1.0, r.1.1))
+pub product_row_is : (x : Literal) (ys qs : List Literal) (n : Net) → 0 < length ys → let p = and_net x (get_or ys 0 blank) n in let r = row_net x (drop 1 ys) qs low p.0 in product_row_net x ys qs n ≡ (r.0, (p.1 ∷ r.1.0, r.1.1))
 product_row_is x [] qs n h = let z : ⊥ = omega arith in absurd z
 product_row_is x (y ∷ ys) qs n h = refl
 
@@ -39,48 +38,40 @@ lower_take y (z ∷ zs) (suc m) h = ap (λ l. y ∷ l) (lower_take z zs m (omega
 
 -- a row under what the rows above give
 abbrev pub under : Literal → List Literal → Net × (List Literal × List Literal) → Net × (List Literal × List Literal)
-under x ys q = let r = product_row_n x ys q.1.0 q.0 in (r.0, (r.1.0, r.1.1 ∷ q.1.1))
+under x ys q = let r = product_row_net x ys q.1.0 q.0 in (r.0, (r.1.0, r.1.1 ∷ q.1.1))
 
-product_step : (x : Literal) (xs ys : List Literal) (m : ℕ) (n : Net) → m < length ys → product_n (x ∷ xs) (take (suc m) ys) n ≡ under x (take (suc m) ys) (product_n xs (take m ys) n)
+product_step : (x : Literal) (xs ys : List Literal) (m : ℕ) (n : Net) → m < length ys → product_net (x ∷ xs) (take (suc m) ys) n ≡ under x (take (suc m) ys) (product_net xs (take m ys) n)
 product_step x xs [] m n h = let z : ⊥ = omega arith in absurd z
-product_step x xs (y ∷ ys) m n h = ap (λ l. under x (y ∷ take m ys) (product_n xs l n)) (lower_take y ys m (omega arith))
+product_step x xs (y ∷ ys) m n h = ap (λ l. under x (y ∷ take m ys) (product_net xs l n)) (lower_take y ys m (omega arith))
 
 -- the rows from k on
 abbrev pub rows_from : ℕ → List Literal → List Literal → Net → Net × (List Literal × List Literal)
-rows_from k xs ys n = product_n (drop k xs) (take (length xs - k) ys) n
-
-pub rows_none : (xs ys os cs : List Literal) (n : Net) → length os ≡ length xs → length cs ≡ length xs → rows_from (length xs) xs ys n ≡ (n, (drop (length xs) os, drop (length xs) cs))
-rows_none xs ys os cs n o c =
-    ap (λ l. product_n l (take (length xs - length xs) ys) n) (drop_all (length xs) xs (omega arith))
-    ∙ sym (ap (λ l. (n, (l, drop (length xs) cs))) (drop_all (length xs) os (omega arith)) ∙ ap (λ l. (n, ([], l))) (drop_all (length xs) cs (omega arith)))
+rows_from k xs ys n = product_net (drop k xs) (take (length xs - k) ys) n
 
 pub rows_more : (xs ys : List Literal) (k : ℕ) (n : Net) → k < length xs → length ys ≡ length xs → rows_from k xs ys n ≡ under (get_or xs k blank) (take (length xs - k) ys) (rows_from (suc k) xs ys n)
 rows_more xs ys k n h e =
     let left : length xs - k ≡ suc (length xs - suc k) = omega arith in
-    ap (λ l. product_n l (take (length xs - k) ys) n) (drop-cons xs k blank h)
-    ∙ ap (λ m. product_n (get_or xs k blank ∷ drop (suc k) xs) (take m ys) n) left
+    ap (λ l. product_net l (take (length xs - k) ys) n) (drop-cons xs k blank h)
+    ∙ ap (λ m. product_net (get_or xs k blank ∷ drop (suc k) xs) (take m ys) n) left
     ∙ product_step (get_or xs k blank) (drop (suc k) xs) ys (length xs - suc k) n (omega arith)
     ∙ ap (λ m. under (get_or xs k blank) (take m ys) (rows_from (suc k) xs ys n)) (sym left)
 
-rows_zero : (xs ys : List Literal) (n : Net) → length ys ≡ length xs → rows_from 0 xs ys n ≡ product_n xs ys n
-rows_zero xs ys n e = ap (λ l. product_n xs l n) (take_all (length xs - 0) ys (omega arith))
+rows_zero : (xs ys : List Literal) (n : Net) → length ys ≡ length xs → rows_from 0 xs ys n ≡ product_net xs ys n
+rows_zero xs ys n e = ap (λ l. product_net xs l n) (take_all (length xs - 0) ys (omega arith))
 
-pub rows_all : (xs ys os cs : List Literal) (k : ℕ) (n m : Net) → k ≡ 0 → length ys ≡ length xs → rows_from k xs ys n ≡ (m, (drop k os, drop k cs)) → product_n xs ys n ≡ (m, (os, cs))
-rows_all xs ys os cs k n m z e is = sym (rows_zero xs ys n e) ∙ subst (λ j. rows_from j xs ys n ≡ (m, (drop j os, drop j cs))) z is
-
-pub rows_grow : (xs ys : List Literal) (k : ℕ) (n : Net) → k ≤ length xs → length ys ≡ length xs → Grows (rows_from k xs ys n).0 (product_n xs ys n).0
+pub rows_grow : (xs ys : List Literal) (k : ℕ) (n : Net) → k ≤ length xs → length ys ≡ length xs → Grows (rows_from k xs ys n).0 (product_net xs ys n).0
 rows_grow xs ys zero n h e = subst (λ q. Grows (rows_from 0 xs ys n).0 q.0) (rows_zero xs ys n e) (grows_same _)
 rows_grow xs ys (suc k) n h e =
     let q = rows_from (suc k) xs ys n in
     let row = product_row_grows (get_or xs k blank) (take (length xs - k) ys) q.1.0 q.0 in
     grows_then (subst (λ r. Grows q.0 r.0) (sym (rows_more xs ys k n (omega arith) e)) row) (rows_grow xs ys k n (omega arith) e)
 
--- one more row, as the code has its words
-abbrev pub row_at : ℕ → List Literal → List Literal → List Literal → Net → Net × (List Literal × Literal)
-row_at k xs ys os n = product_row_n (get_or xs k blank) (take (length xs - k - 0) ys) (drop 1 (take (length xs - k) (drop k os))) n
+-- one more row, as the code has its words of width w
+abbrev pub row_at : ℕ → ℕ → List Literal → List Literal → List Literal → Net → Net × (List Literal × Literal)
+row_at w k xs ys os n = product_row_net (get_or xs k blank) (take (w - k - 0) ys) (drop 1 (take (w - k) (drop k os))) n
 
-pub row_is : (xs ys os cs : List Literal) (i : ℕ) (n m : Net) → 0 < i → i ≤ length xs → length ys ≡ length xs → length os ≡ length xs → rows_from i xs ys n ≡ (m, (drop i os, drop i cs)) → let r = row_at (i - 1) xs ys os m in rows_from (i - 1) xs ys n ≡ (r.0, (r.1.0, r.1.1 ∷ drop i cs))
-row_is xs ys os cs i n m pos h e o is =
+row_of : (xs ys os cs : List Literal) (i : ℕ) (n m : Net) → 0 < i → i ≤ length xs → length ys ≡ length xs → length os ≡ length xs → rows_from i xs ys n ≡ (m, (drop i os, drop i cs)) → let r = row_at (length xs) (i - 1) xs ys os m in rows_from (i - 1) xs ys n ≡ (r.0, (r.1.0, r.1.1 ∷ drop i cs))
+row_of xs ys os cs i n m pos h e o is =
     let k = i - 1 in
     let up : suc k ≡ i = omega arith in
     let place : k + 1 ≡ i = omega arith in
@@ -90,12 +81,15 @@ row_is xs ys os cs i n m pos h e o is =
     rows_more xs ys k n (omega arith) e ∙ ap (λ j. under (get_or xs k blank) (take (length xs - k) ys) (rows_from j xs ys n)) up ∙ ap (under (get_or xs k blank) (take (length xs - k) ys)) is
     ∙ ap (λ j. row (take j ys) (drop i os)) (sym width) ∙ ap (row (take (length xs - k - 0) ys)) (sym part)
 
-pub row_again : {b b' : Builder} (xs ys os cs new : List Literal) (over : Literal) (i : ℕ) (n m : Net) → 0 < i → i ≤ length xs → length ys ≡ length xs → length os ≡ length xs → length cs ≡ length xs → rows_from i xs ys n ≡ (m, (drop i os, drop i cs)) → let r = row_at (i - 1) xs ys os m in Wrote b b' r.0 → new ≡ r.1.0 → over ≡ r.1.1 → rows_from (i - 1) xs ys n ≡ (built b', (drop (i - 1) (put_mid (i - 1) (length xs - (i - 1)) os new), drop (i - 1) (set cs (i - 1) over)))
-row_again {b} {b'} xs ys os cs new over i n m pos h e o c is w en eo =
+pub row_is : (w : ℕ) (xs ys os cs : List Literal) (i : ℕ) (n m : Net) → w ≡ length xs → 0 < i → i ≤ length xs → length ys ≡ length xs → length os ≡ length xs → rows_from i xs ys n ≡ (m, (drop i os, drop i cs)) → let r = row_at w (i - 1) xs ys os m in rows_from (i - 1) xs ys n ≡ (r.0, (r.1.0, r.1.1 ∷ drop i cs))
+row_is w xs ys os cs i n m width pos h e o is = subst (λ v. let r = row_at v (i - 1) xs ys os m in rows_from (i - 1) xs ys n ≡ (r.0, (r.1.0, r.1.1 ∷ drop i cs))) (sym width) (row_of xs ys os cs i n m pos h e o is)
+
+pub row_again : {b b' : Written} (v : ℕ) (xs ys os cs new : List Literal) (over : Literal) (i : ℕ) (n m : Net) → v ≡ length xs → 0 < i → i ≤ length xs → length ys ≡ length xs → length os ≡ length xs → length cs ≡ length xs → rows_from i xs ys n ≡ (m, (drop i os, drop i cs)) → let r = row_at v (i - 1) xs ys os m in Wrote b b' r.0 → new ≡ r.1.0 → over ≡ r.1.1 → rows_from (i - 1) xs ys n ≡ (b'.net, (drop (i - 1) (put_mid (i - 1) (v - (i - 1)) os new), drop (i - 1) (set cs (i - 1) over)))
+row_again {b} {b'} v xs ys os cs new over i n m width pos h e o c is w en eo =
     let k = i - 1 in
-    let r = row_at k xs ys os m in
+    let r = row_at v k xs ys os m in
     let place : k + 1 ≡ i = omega arith in
-    let word : drop k (put_mid k (length xs - k) os new) ≡ r.1.0 = drop_written os new k (length xs - k) (omega arith) (omega arith) ∙ en in
+    let word : drop k (put_mid k (v - k) os new) ≡ r.1.0 = drop_written os new k (v - k) (omega arith) (omega arith) ∙ en in
     let carries : drop k (set cs k over) ≡ r.1.1 ∷ drop i cs = drop-set cs k over (omega arith) ∙ ap (λ j. over ∷ drop j cs) place ∙ ap (λ x. x ∷ drop i cs) eo in
-    row_is xs ys os cs i n m pos h e o is
-    ∙ sym (ap (λ q. (q, (drop k (put_mid k (length xs - k) os new), drop k (set cs k over)))) w.net ∙ ap (λ l. (r.0, (l, drop k (set cs k over)))) word ∙ ap (λ l. (r.0, (r.1.0, l))) carries)
+    row_is v xs ys os cs i n m width pos h e o is
+    ∙ sym (ap (λ q. (q, (drop k (put_mid k (v - k) os new), drop k (set cs k over)))) w.net ∙ ap (λ l. (r.0, (l, drop k (set cs k over)))) word ∙ ap (λ l. (r.0, (r.1.0, l))) carries)

@@ -5,7 +5,7 @@ use native.Mathlib.Nat.{mod-le}
 use Rattle.std.proofs.lemmas.Bool.{lt-ltb, ltb-true, eqb-true, eqb-false, eq-eqb, and_parts, and_from, not-true, not_from_false}
 use Rattle.words.specs.Words.{pick, do2}
 use Rattle.words.specs.declared.BinaryOp.TheVariants.{Udiv, Urem}
-use Rattle.circuit.specs.Bits.{bit, val, bits_of, not_b, add_b, carry_b, ult_b, equal_b, any_b, mul_b, carries_b, apart_b, all_b, divides_b}
+use Rattle.circuit.specs.Bits.{bit, val, bits_of, not_bits, add_bits, carry_bits, ult_bits, equal_bits, any_bits, mul_bits, carries_bits, apart_bits, all_bits, divides_bits}
 use Rattle.circuit.proofs.Numbers.{val_lt, val_inj, length_bits_of, val_bits_of}
 use Rattle.circuit.proofs.Adder.{sum_with_carry, length_add}
 use Rattle.circuit.proofs.Comparisons.{ult_right, equal_right, cond_any, all_right}
@@ -37,43 +37,43 @@ module _ (xs ys qs rs : List Bool) (ex : length xs ≡ length qs) (ey : length y
   room : val xs < 2 ^ length qs
   room = subst (λ n. val xs < 2 ^ n) ex (val_lt xs)
 
-  length_product : length (mul_b ys qs) ≡ length qs
+  length_product : length (mul_bits ys qs) ≡ length qs
   length_product = length_mul ys qs ey ∙ ey
 
-  product : val (mul_b ys qs) + 2 ^ length qs * lost ys qs ≡ val qs * val ys
-  product = subst (λ n. val (mul_b ys qs) + 2 ^ n * lost ys qs ≡ val ys * val qs) ey (product_with_lost ys qs ey) ∙ mul_comm (val ys) (val qs)
+  product : val (mul_bits ys qs) + 2 ^ length qs * lost ys qs ≡ val qs * val ys
+  product = subst (λ n. val (mul_bits ys qs) + 2 ^ n * lost ys qs ≡ val ys * val qs) ey (product_with_lost ys qs ey) ∙ mul_comm (val ys) (val qs)
 
-  sum : val (add_b (mul_b ys qs) rs false) + 2 ^ length qs * bit (carry_b (mul_b ys qs) rs false) ≡ val (mul_b ys qs) + val rs + 0
+  sum : val (add_bits (mul_bits ys qs) rs false) + 2 ^ length qs * bit (carry_bits (mul_bits ys qs) rs false) ≡ val (mul_bits ys qs) + val rs + 0
   sum =
-      subst (λ n. val (add_b (mul_b ys qs) rs false) + 2 ^ n * bit (carry_b (mul_b ys qs) rs false) ≡ val (mul_b ys qs) + val rs + 0)
-      length_product (sum_with_carry (mul_b ys qs) rs false (length_product ∙ sym er))
+      subst (λ n. val (add_bits (mul_bits ys qs) rs false) + 2 ^ n * bit (carry_bits (mul_bits ys qs) rs false) ≡ val (mul_bits ys qs) + val rs + 0)
+      length_product (sum_with_carry (mul_bits ys qs) rs false (length_product ∙ sym er))
 
-  equal : equal_b (add_b (mul_b ys qs) rs false) xs true ≡ eqb (val (add_b (mul_b ys qs) rs false)) (val xs)
-  equal = equal_right (add_b (mul_b ys qs) rs false) xs (length_add (mul_b ys qs) rs false (length_product ∙ sym er) ∙ (length_product ∙ sym ex))
+  equal : equal_bits (add_bits (mul_bits ys qs) rs false) xs true ≡ eqb (val (add_bits (mul_bits ys qs) rs false)) (val xs)
+  equal = equal_right (add_bits (mul_bits ys qs) rs false) xs (length_add (mul_bits ys qs) rs false (length_product ∙ sym er) ∙ (length_product ∙ sym ex))
 
-  bound : cond (any_b ys false) (ult_b rs ys) (all_b qs) ≡ pick (eqb (val ys) 0) (eqb (val qs) (2 ^ length qs - 1)) (ltb (val rs) (val ys))
-  bound = cond_any ys (ult_b rs ys) (all_b qs) ∙ ap₂ (pick (eqb (val ys) 0)) (all_right qs) (ult_right rs ys (er ∙ sym ey))
+  bound : cond (any_bits ys false) (ult_bits rs ys) (all_bits qs) ≡ pick (eqb (val ys) 0) (eqb (val qs) (2 ^ length qs - 1)) (ltb (val rs) (val ys))
+  bound = cond_any ys (ult_bits rs ys) (all_bits qs) ∙ ap₂ (pick (eqb (val ys) 0)) (all_right qs) (ult_right rs ys (er ∙ sym ey))
 
   -- the tests before the bound say that x is q y + r
-  sum_from : lost ys qs ≡ 0 → carry_b (mul_b ys qs) rs false ≡ false → equal_b (add_b (mul_b ys qs) rs false) xs true ≡ true → val xs ≡ val qs * val ys + val rs
+  sum_from : lost ys qs ≡ 0 → carry_bits (mul_bits ys qs) rs false ≡ false → equal_bits (add_bits (mul_bits ys qs) rs false) xs true ≡ true → val xs ≡ val qs * val ys + val rs
   sum_from k c e =
       let s = eqb-true _ _ (sym equal ∙ e) in
       omega (arith, product, sum, mul-zero (2 ^ length qs), ap (λ t. 2 ^ length qs * t) k, ap (λ t. 2 ^ length qs * bit t) c)
 
-  sum_to : val xs ≡ val qs * val ys + val rs → (lost ys qs ≡ 0) × (carry_b (mul_b ys qs) rs false ≡ false) × (equal_b (add_b (mul_b ys qs) rs false) xs true ≡ true)
+  sum_to : val xs ≡ val qs * val ys + val rs → (lost ys qs ≡ 0) × (carry_bits (mul_bits ys qs) rs false ≡ false) × (equal_bits (add_bits (mul_bits ys qs) rs false) xs true ≡ true)
   sum_to e =
-      let k : lost ys qs ≡ 0 = none_lost (2 ^ length qs) (lost ys qs) (val (mul_b ys qs)) (omega (arith, product, room)) in
+      let k : lost ys qs ≡ 0 = none_lost (2 ^ length qs) (lost ys qs) (val (mul_bits ys qs)) (omega (arith, product, room)) in
       let p : 2 ^ length qs * lost ys qs ≡ 0 = ap (λ t. 2 ^ length qs * t) k ∙ mul-zero _ in
-      let c : bit (carry_b (mul_b ys qs) rs false) ≡ 0 = none_lost (2 ^ length qs) _ (val (add_b (mul_b ys qs) rs false)) (omega (arith, product, sum, room)) in
-      let q : 2 ^ length qs * bit (carry_b (mul_b ys qs) rs false) ≡ 0 = ap (λ t. 2 ^ length qs * t) c ∙ mul-zero _ in
+      let c : bit (carry_bits (mul_bits ys qs) rs false) ≡ 0 = none_lost (2 ^ length qs) _ (val (add_bits (mul_bits ys qs) rs false)) (omega (arith, product, sum, room)) in
+      let q : 2 ^ length qs * bit (carry_bits (mul_bits ys qs) rs false) ≡ 0 = ap (λ t. 2 ^ length qs * t) c ∙ mul-zero _ in
       (k, bit_none _ c, equal ∙ eq-eqb _ _ (omega (arith, product, sum)))
 
 pub divides_right : (xs ys qs rs : List Bool) → length xs ≡ length qs → length ys ≡ length qs → length rs ≡ length qs
-    → Decides (divides_b xs ys qs rs) ((val qs ≡ do2 (length qs) Udiv (val xs) (val ys)) × (val rs ≡ do2 (length qs) Urem (val xs) (val ys)))
+    → Decides (divides_bits xs ys qs rs) ((val qs ≡ do2 (length qs) Udiv (val xs) (val ys)) × (val rs ≡ do2 (length qs) Urem (val xs) (val ys)))
 divides_right xs ys qs rs ex ey er =
     let n = 2 ^ length qs - 1 in
-    let carries = all_b (not_b (carries_b ys qs)) in
-    let apart = apart_b ys qs in (
+    let carries = all_bits (not_bits (carries_bits ys qs)) in
+    let apart = apart_bits ys qs in (
       (λ h.
           let a = and_parts carries _ h in let b = and_parts apart _ a.1 in let c = and_parts _ _ b.1 in let d = and_parts _ _ c.1 in
           pair_from (val xs) (val ys) (val qs) (val rs) n (eqb (val ys) 0) refl (sym (bound xs ys qs rs ex ey er) ∙ d.1)
@@ -100,8 +100,8 @@ remainder_lt w x y h = by_divisor (eqb y 0)
     by_divisor false = omega (arith, mod-le x y)
 
 pub divides_one : (xs ys : List Bool) → length xs ≡ length ys
-    → (qs : List Bool) × (rs : List Bool) × (length qs ≡ length xs) × (length rs ≡ length xs) × (divides_b xs ys qs rs ≡ true)
-    × ((ps ts : List Bool) → length ps ≡ length xs → length ts ≡ length xs → divides_b xs ys ps ts ≡ true → (ps ≡ qs) × (ts ≡ rs))
+    → (qs : List Bool) × (rs : List Bool) × (length qs ≡ length xs) × (length rs ≡ length xs) × (divides_bits xs ys qs rs ≡ true)
+    × ((ps ts : List Bool) → length ps ≡ length xs → length ts ≡ length xs → divides_bits xs ys ps ts ≡ true → (ps ≡ qs) × (ts ≡ rs))
 divides_one xs ys e =
     let w = length xs in
     let q = do2 w Udiv (val xs) (val ys) in

@@ -1,18 +1,20 @@
 -- Words that are made of others with no gate: inverted, joined, filled, exchanged at the top, cut and moved. They spell what is done to the bits.
 use Rattle.std.proofs.Common.{ℕ, zero, suc, ◌+◌, ◌-◌, Bool, true, false, cond, ltb, List, [], ◌∷◌, ◌++◌, map, length, get_or, sym, ap, ap₂}
+use Rattle.circuit.specs.declared.shifting.Direction.{Direction}
+use Rattle.circuit.specs.declared.shifting.Direction.TheVariants.{Left, Right}
 use lib.ListN.{length-map}
 use Rattle.clauses.specs.declared.literal.Literal.{Literal}
-use Rattle.circuit.specs.Bits.{not_b, fill, flag, topped, lower, top, top_of, up_one, down_one, table, moved}
+use Rattle.circuit.specs.Bits.{not_bits, fill, flag, topped, lower, top, top_of, up_one, down_one, table, moved}
 use Rattle.circuit.specs.Nets.{Net}
 use Rattle.circuit.specs.Circuits.{inverted}
 use Rattle.circuit.specs.Meaning.{truth_of, WordBelow, Carries, Spells}
 use Rattle.circuit.proofs.Nets.{carries_itself, spells_itself, carries_negated, carries_as, spells_none, spells_bit, spells_as}
 
 module _ {n : Net} where
-  pub spells_inverted : {ls : List Literal} {f : (ℕ → Bool) → List Bool} → Spells n ls f → Spells n (inverted ls) (λ s. not_b (f s))
-  spells_inverted {ls} w = spells_as (λ s k. ap not_b (w.means s k)) (each ls w.below)
+  pub spells_inverted : {ls : List Literal} {f : (ℕ → Bool) → List Bool} → Spells n ls f → Spells n (inverted ls) (λ s. not_bits (f s))
+  spells_inverted {ls} w = spells_as (λ s k. ap not_bits (w.means s k)) (each ls w.below)
     where
-      each : (ls : List Literal) → WordBelow n.next ls → Spells n (inverted ls) (λ s. not_b (map (truth_of s) ls))
+      each : (ls : List Literal) → WordBelow n.next ls → Spells n (inverted ls) (λ s. not_bits (map (truth_of s) ls))
       each [] b = spells_none
       each (l ∷ ls) b = spells_bit (carries_negated (carries_itself b.0)) (each ls b.1)
 
@@ -83,14 +85,14 @@ module _ {n : Net} where
   spells_table zero i t u c = spells_none
   spells_table (suc m) i t u c = spells_bit (c i) (spells_table m (suc i) t u c)
 
-  pub spells_moved : (left : Bool) (k : ℕ) {b : Literal} {ls : List Literal} {h : (ℕ → Bool) → Bool} {f : (ℕ → Bool) → List Bool}
-      → Carries n b h → Spells n ls f → Spells n (moved left b k ls) (λ s. moved left (h s) k (f s))
-  spells_moved left k {b} {ls} {h} c w = spells_as (λ s e. ap (moved left (h s) k) (w.means s e)) (each left)
+  pub spells_moved : (direction : Direction) (k : ℕ) {b : Literal} {ls : List Literal} {h : (ℕ → Bool) → Bool} {f : (ℕ → Bool) → List Bool}
+      → Carries n b h → Spells n ls f → Spells n (moved direction b k ls) (λ s. moved direction (h s) k (f s))
+  spells_moved direction k {b} {ls} {h} c w = spells_as (λ s e. ap (moved direction (h s) k) (w.means s e)) (each direction)
     where
-      each : (left : Bool) → Spells n (moved left b k ls) (λ s. moved left (h s) k (map (truth_of s) ls))
-      each true =
+      each : (direction : Direction) → Spells n (moved direction b k ls) (λ s. moved direction (h s) k (map (truth_of s) ls))
+      each Left =
           spells_as (λ s e. ap (λ m. table (up_one (h s) k (map (truth_of s) ls)) m 0) (sym (length-map ls (truth_of s))))
           (spells_table (length ls) 0 (up_one b k ls) (λ s. up_one (h s) k (map (truth_of s) ls)) (λ i. carries_cond (ltb i k) c (carries_at ls (i - k) w.below c)))
-      each false =
+      each Right =
           spells_as (λ s e. ap (λ m. table (down_one (h s) k (map (truth_of s) ls)) m 0) (sym (length-map ls (truth_of s))))
           (spells_table (length ls) 0 (down_one b k ls) (λ s. down_one (h s) k (map (truth_of s) ls)) (λ i. carries_at ls (i + k) w.below c))

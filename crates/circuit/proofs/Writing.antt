@@ -1,58 +1,47 @@
 -- A builder's steps: each has room if the whole has, and together they write what they write one after the other.
-use Rattle.std.proofs.Common.{◌≡◌, ℕ, ◌<◌, ◌≤◌, List, [], ◌∷◌, ◌++◌, length, take, sym, refl, ap, ◌∙◌, subst, append_assoc, arith, length-append, length-take-le}
+use Rattle.std.proofs.Common.{◌≡◌, List, [], ◌∷◌, sym, refl, ap, ◌∙◌, subst, append_assoc, arith}
 use Rattle.clauses.specs.declared.literal.Literal.{Literal}
-use Rattle.circuit.specs.declared.builder.Builder.{Builder}
 use Rattle.circuit.specs.Nets.{Net, clause, said}
 use Rattle.circuit.specs.Parts.{appended}
-use Rattle.circuit.specs.Built.{built, Fits, Wrote}
-use Rattle.circuit.proofs.Growing.{Grows, grows_same, said_grows}
-
--- where one more number fits there is a place for it
-pub place_inside : (xs : List ℕ) (l x : ℕ) → l ≤ length xs → length (take l xs ++ (x ∷ [])) ≤ length xs → l < length xs
-place_inside xs l x h k = omega (arith, length-append (take l xs) (x ∷ []), length-take-le l xs h)
+use Rattle.circuit.specs.Built.{Written, Fits, Wrote}
+use Rattle.circuit.proofs.Growing.{Grows, said_grows}
 
 -- nothing is written yet
-pub wrote_none : (b : Builder) → b.length ≤ length b.numbers.now → Wrote b b (built b)
-wrote_none b h = record { net = refl; size = refl; inside = h }
+pub wrote_none : (b : Written) → Wrote b b b.net
+wrote_none b = record { net = refl; size = refl }
 
 -- the first step of a whole net
-pub fits_first : {b : Builder} {n m : Net} → Grows n m → Fits b m → Fits b n
-fits_first g f = record { inside = f.inside; numbers = omega arith; variables = omega arith }
+pub fits_first : {b : Written} {n m : Net} → Grows n m → Fits b m → Fits b n
+fits_first g f = record { numbers = omega arith; variables = omega arith }
 
 -- the step c of a whole net, after the net n
-pub fits_next : (c : Net → Net) {b b' : Builder} {n m : Net} → Wrote b b' n → Grows (c n) m → Fits b m → Fits b' (c (built b'))
-fits_next c {b} {b'} {n} {m} w g f = subst (λ k. Fits b' (c k)) (sym w.net) (record { inside = w.inside; numbers = omega arith; variables = omega arith })
+pub fits_next : (c : Net → Net) {b b' : Written} {n m : Net} → Wrote b b' n → Grows (c n) m → Fits b m → Fits b' (c b'.net)
+fits_next c {b} {b'} {n} {m} w g f = subst (λ k. Fits b' (c k)) (sym w.net) (record { numbers = omega arith; variables = omega arith })
 
-pub wrote_next : (c : Net → Net) {b b' b'' : Builder} {n : Net} → Wrote b b' n → Wrote b' b'' (c (built b')) → Wrote b b'' (c n)
-wrote_next c w v = record { net = v.net ∙ ap c w.net; size = v.size ∙ w.size; inside = v.inside }
+pub wrote_next : (c : Net → Net) {b b' b'' : Written} {n : Net} → Wrote b b' n → Wrote b' b'' (c b'.net) → Wrote b b'' (c n)
+wrote_next c w v = record { net = v.net ∙ ap c w.net; size = v.size ∙ w.size }
 
 -- a clause by its first literal and the others
 pub said_cons : (l : Literal) (ls : List Literal) (n : Net) → said ls (appended (l.0 ∷ []) n) ≡ said (l ∷ ls) n
 said_cons l ls n = ap (λ o. record { next = n.next; out = o }) (append_assoc n.out (l.0 ∷ []) (clause ls))
 
 -- room for a net is room for it later on, too, and what is written stays written
-pub fits_here : {b b' : Builder} {m : Net} → Wrote b b' (built b') → Fits b m → Fits b' m
-fits_here w f = record { inside = w.inside; numbers = omega arith; variables = f.variables }
+pub fits_here : {b b' : Written} {m : Net} → Wrote b b' b'.net → Fits b m → Fits b' m
+fits_here w f = record { numbers = omega arith; variables = f.variables }
 
-pub wrote_here : {b b' b'' : Builder} {n : Net} → Wrote b b' (built b') → Wrote b' b'' n → Wrote b b'' (built b'')
-wrote_here w v = record { net = refl; size = v.size ∙ w.size; inside = v.inside }
+pub wrote_here : {b b' b'' : Written} {n : Net} → Wrote b b' b'.net → Wrote b' b'' n → Wrote b b'' b''.net
+wrote_here w v = record { net = refl; size = v.size ∙ w.size }
 
 -- the first number of a clause, and then the others
-pub fits_literal : {b : Builder} (l : Literal) (ls : List Literal) → Fits b (said (l ∷ ls) (built b)) → Fits b (appended (l.0 ∷ []) (built b))
-fits_literal {b} l ls f = fits_first (subst (Grows (appended (l.0 ∷ []) (built b))) (said_cons l ls (built b)) (said_grows ls (appended (l.0 ∷ []) (built b)))) f
-
-pub fits_literals : {b b' : Builder} (l : Literal) (ls : List Literal) → Wrote b b' (appended (l.0 ∷ []) (built b)) → Fits b (said (l ∷ ls) (built b)) → Fits b' (said ls (built b'))
-fits_literals {b} l ls w f = fits_next (said ls) w (grows_same (said ls (appended (l.0 ∷ []) (built b)))) (subst (Fits b) (sym (said_cons l ls (built b))) f)
-
-pub wrote_literals : {b b' b'' : Builder} (l : Literal) (ls : List Literal) → Wrote b b' (appended (l.0 ∷ []) (built b)) → Wrote b' b'' (said ls (built b')) → Wrote b b'' (said (l ∷ ls) (built b))
-wrote_literals {b} {b'} {b''} l ls w v = subst (Wrote b b'') (said_cons l ls (built b)) (wrote_next (said ls) w v)
+pub fits_literal : {b : Written} (l : Literal) (ls : List Literal) → Fits b (said (l ∷ ls) b.net) → Fits b (appended (l.0 ∷ []) b.net)
+fits_literal {b} l ls f = fits_first (subst (Grows (appended (l.0 ∷ []) b.net)) (said_cons l ls b.net) (said_grows ls (appended (l.0 ∷ []) b.net))) f
 
 -- a step that goes on from the literals s of the step before, which the code has as r
-pub fits_then : {R : Type 0} (c : R → Net → Net) {b b' : Builder} {n m : Net} {r s : R} → Wrote b b' n → r ≡ s → Grows (c s n) m → Fits b m → Fits b' (c r (built b'))
-fits_then c {b} {b'} {n} {m} w e g f = subst (λ t. Fits b' (c t (built b'))) (sym e) (fits_next (c _) w g f)
+pub fits_then : {R : Type 0} (c : R → Net → Net) {b b' : Written} {n m : Net} {r s : R} → Wrote b b' n → r ≡ s → Grows (c s n) m → Fits b m → Fits b' (c r b'.net)
+fits_then c {b} {b'} {n} {m} w e g f = subst (λ t. Fits b' (c t b'.net)) (sym e) (fits_next (c _) w g f)
 
-pub wrote_then : {R : Type 0} (c : R → Net → Net) {b b' b'' : Builder} {n : Net} {r s : R} → Wrote b b' n → r ≡ s → Wrote b' b'' (c r (built b')) → Wrote b b'' (c s n)
-wrote_then c {b} {b'} {b''} {n} w e v = wrote_next (c _) w (subst (λ t. Wrote b' b'' (c t (built b'))) e v)
+pub wrote_then : {R : Type 0} (c : R → Net → Net) {b b' b'' : Written} {n : Net} {r s : R} → Wrote b b' n → r ≡ s → Wrote b' b'' (c r b'.net) → Wrote b b'' (c s n)
+wrote_then c {b} {b'} {b''} {n} w e v = wrote_next (c _) w (subst (λ t. Wrote b' b'' (c t b'.net)) e v)
 
-pub gives_then : {R V : Type 0} (c : R → Net → V) {b b' : Builder} {n : Net} {r s : R} {v : V} → Wrote b b' n → r ≡ s → v ≡ c r (built b') → v ≡ c s n
+pub gives_then : {R V : Type 0} (c : R → Net → V) {b b' : Written} {n : Net} {r s : R} {v : V} → Wrote b b' n → r ≡ s → v ≡ c r b'.net → v ≡ c s n
 gives_then c {b} {b'} {n} {r} {s} w e is = is ∙ ap (c r) w.net ∙ ap (λ t. c t n) e

@@ -1,6 +1,8 @@
 -- Words as lists of bits, the lowest first, and the circuits on them: each operation as gates do it. The name
--- of a circuit on bits ends in _b; that of the same circuit on literals, which makes a net larger, in _n.
+-- of a circuit on bits ends in _bits; that of the same circuit on literals, which makes a net larger, in _net.
 use Rattle.std.specs.Prelude.{ℕ, zero, suc, ◌+◌, ◌-◌, ◌*◌, ◌/◌, Bool, true, false, cond, not, ◌&&◌, ◌||◌, List, [], ◌∷◌, length, nat_lt, slice_index_or}
+use Rattle.circuit.specs.declared.shifting.Direction.{Direction}
+use Rattle.circuit.specs.declared.shifting.Direction.TheVariants.{Left, Right}
 use Rattle.words.specs.Words.{odd, xor}
 use Rattle.words.specs.declared.UnaryOp.{UnaryOp}
 use Rattle.words.specs.declared.UnaryOp.TheVariants.{Not, Neg}
@@ -26,14 +28,14 @@ maj true b c = b || c
 maj false b c = b && c
 
 -- bit by bit
-abbrev pub not_b : List Bool → List Bool
-not_b [] = []
-not_b (x ∷ xs) = not x ∷ not_b xs
+abbrev pub not_bits : List Bool → List Bool
+not_bits [] = []
+not_bits (x ∷ xs) = not x ∷ not_bits xs
 
-abbrev pub zip_b : (Bool → Bool → Bool) → List Bool → List Bool → List Bool
-zip_b f [] ys = []
-zip_b f (x ∷ xs) [] = []
-zip_b f (x ∷ xs) (y ∷ ys) = f x y ∷ zip_b f xs ys
+abbrev pub zip_bits : (Bool → Bool → Bool) → List Bool → List Bool → List Bool
+zip_bits f [] ys = []
+zip_bits f (x ∷ xs) [] = []
+zip_bits f (x ∷ xs) (y ∷ ys) = f x y ∷ zip_bits f xs ys
 
 -- a word whose bits are all b, as long as the given one
 abbrev pub fill : {A : Type 0} → A → List A → List A
@@ -46,25 +48,25 @@ flag z b [] = []
 flag z b (x ∷ xs) = b ∷ fill z xs
 
 -- the sum by a ripple of carries, and the carry out
-abbrev pub add_b : List Bool → List Bool → Bool → List Bool
-add_b [] ys c = []
-add_b (x ∷ xs) [] c = []
-add_b (x ∷ xs) (y ∷ ys) c = xor (xor x y) c ∷ add_b xs ys (maj x y c)
+abbrev pub add_bits : List Bool → List Bool → Bool → List Bool
+add_bits [] ys c = []
+add_bits (x ∷ xs) [] c = []
+add_bits (x ∷ xs) (y ∷ ys) c = xor (xor x y) c ∷ add_bits xs ys (maj x y c)
 
-abbrev pub carry_b : List Bool → List Bool → Bool → Bool
-carry_b [] ys c = c
-carry_b (x ∷ xs) [] c = c
-carry_b (x ∷ xs) (y ∷ ys) c = carry_b xs ys (maj x y c)
+abbrev pub carry_bits : List Bool → List Bool → Bool → Bool
+carry_bits [] ys c = c
+carry_bits (x ∷ xs) [] c = c
+carry_bits (x ∷ xs) (y ∷ ys) c = carry_bits xs ys (maj x y c)
 
-abbrev pub sub_b : List Bool → List Bool → List Bool
-sub_b xs ys = add_b xs (not_b ys) true
+abbrev pub sub_bits : List Bool → List Bool → List Bool
+sub_bits xs ys = add_bits xs (not_bits ys) true
 
-abbrev pub neg_b : List Bool → List Bool
-neg_b xs = sub_b (fill false xs) xs
+abbrev pub neg_bits : List Bool → List Bool
+neg_bits xs = sub_bits (fill false xs) xs
 
 -- below: the chain of borrows
-abbrev pub ult_b : List Bool → List Bool → Bool
-ult_b xs ys = not (carry_b xs (not_b ys) true)
+abbrev pub ult_bits : List Bool → List Bool → Bool
+ult_bits xs ys = not (carry_bits xs (not_bits ys) true)
 
 -- the word xs with the top bit of ys
 abbrev pub topped : {A : Type 0} → List A → List A → List A
@@ -74,20 +76,20 @@ topped (x ∷ []) (y ∷ ys) = y ∷ []
 topped (x ∷ x' ∷ xs) (y ∷ ys) = x ∷ topped (x' ∷ xs) ys
 
 -- as two's complement: without sign once the top bits are exchanged
-abbrev pub slt_b : List Bool → List Bool → Bool
-slt_b xs ys = ult_b (topped xs ys) (topped ys xs)
+abbrev pub slt_bits : List Bool → List Bool → Bool
+slt_bits xs ys = ult_bits (topped xs ys) (topped ys xs)
 
-abbrev pub equal_b : List Bool → List Bool → Bool → Bool
-equal_b [] ys c = c
-equal_b (x ∷ xs) [] c = c
-equal_b (x ∷ xs) (y ∷ ys) c = equal_b xs ys (c && not (xor x y))
+abbrev pub equal_bits : List Bool → List Bool → Bool → Bool
+equal_bits [] ys c = c
+equal_bits (x ∷ xs) [] c = c
+equal_bits (x ∷ xs) (y ∷ ys) c = equal_bits xs ys (c && not (xor x y))
 
-abbrev pub any_b : List Bool → Bool → Bool
-any_b [] c = c
-any_b (x ∷ xs) c = any_b xs (c || x)
+abbrev pub any_bits : List Bool → Bool → Bool
+any_bits [] c = c
+any_bits (x ∷ xs) c = any_bits xs (c || x)
 
-abbrev pub ite_b : List Bool → List Bool → List Bool → List Bool
-ite_b ts xs ys = zip_b (cond (any_b ts false)) xs ys
+abbrev pub ite_bits : List Bool → List Bool → List Bool → List Bool
+ite_bits ts xs ys = zip_bits (cond (any_bits ts false)) xs ys
 
 -- all but the top bit of a word that isn't empty, and its top bit; b is its lowest bit
 abbrev pub lower : {A : Type 0} → A → List A → List A
@@ -100,34 +102,34 @@ top b (x ∷ xs) = top x xs
 
 -- The product by rows, from the row of the highest bit down: a row is the word ys if its bit of xs is 1,
 -- and to it is added what the rows above give, which lies one place higher.
-abbrev pub mul_b : List Bool → List Bool → List Bool
-mul_b [] ys = []
-mul_b (x ∷ xs) [] = []
-mul_b (x ∷ xs) (y ∷ ys) = (x && y) ∷ add_b (zip_b (λ a b. x && a) ys ys) (mul_b xs (lower y ys)) false
+abbrev pub mul_bits : List Bool → List Bool → List Bool
+mul_bits [] ys = []
+mul_bits (x ∷ xs) [] = []
+mul_bits (x ∷ xs) (y ∷ ys) = (x && y) ∷ add_bits (zip_bits (λ a b. x && a) ys ys) (mul_bits xs (lower y ys)) false
 
 -- the carries out of the rows, the lowest row first
-abbrev pub carries_b : List Bool → List Bool → List Bool
-carries_b [] ys = []
-carries_b (x ∷ xs) [] = []
-carries_b (x ∷ xs) (y ∷ ys) = carry_b (zip_b (λ a b. x && a) ys ys) (mul_b xs (lower y ys)) false ∷ carries_b xs (lower y ys)
+abbrev pub carries_bits : List Bool → List Bool → List Bool
+carries_bits [] ys = []
+carries_bits (x ∷ xs) [] = []
+carries_bits (x ∷ xs) (y ∷ ys) = carry_bits (zip_bits (λ a b. x && a) ys ys) (mul_bits xs (lower y ys)) false ∷ carries_bits xs (lower y ys)
 
 -- no bit of xs meets a bit of ys at a place that the product's word doesn't have
-abbrev pub none_b : Bool → List Bool → Bool
-none_b b [] = true
-none_b b (x ∷ xs) = not (x && b) && none_b b xs
+abbrev pub none_bits : Bool → List Bool → Bool
+none_bits b [] = true
+none_bits b (x ∷ xs) = not (x && b) && none_bits b xs
 
-abbrev pub apart_b : List Bool → List Bool → Bool
-apart_b [] ys = true
-apart_b (x ∷ xs) [] = true
-apart_b (x ∷ xs) (y ∷ ys) = none_b (top y ys) xs && apart_b xs (lower y ys)
+abbrev pub apart_bits : List Bool → List Bool → Bool
+apart_bits [] ys = true
+apart_bits (x ∷ xs) [] = true
+apart_bits (x ∷ xs) (y ∷ ys) = none_bits (top y ys) xs && apart_bits xs (lower y ys)
 
-abbrev pub all_b : List Bool → Bool
-all_b [] = true
-all_b (x ∷ xs) = x && all_b xs
+abbrev pub all_bits : List Bool → Bool
+all_bits [] = true
+all_bits (x ∷ xs) = x && all_bits xs
 
 -- the divider's test: qs times ys, without a bit lost, and rs are xs; rs is below ys, or ys is 0 and qs all ones
-abbrev pub divides_b : List Bool → List Bool → List Bool → List Bool → Bool
-divides_b xs ys qs rs = all_b (not_b (carries_b ys qs)) && (apart_b ys qs && (not (carry_b (mul_b ys qs) rs false) && (equal_b (add_b (mul_b ys qs) rs false) xs true && cond (any_b ys false) (ult_b rs ys) (all_b qs))))
+abbrev pub divides_bits : List Bool → List Bool → List Bool → List Bool → Bool
+divides_bits xs ys qs rs = all_bits (not_bits (carries_bits ys qs)) && (apart_bits ys qs && (not (carry_bits (mul_bits ys qs) rs false) && (equal_bits (add_bits (mul_bits ys qs) rs false) xs true && cond (any_bits ys false) (ult_bits rs ys) (all_bits qs))))
 
 -- a word moved by k places, with b where no bit comes from
 abbrev pub up_one : {A : Type 0} → A → ℕ → List A → ℕ → A
@@ -141,40 +143,40 @@ table f zero i = []
 table f (suc n) i = f i ∷ table f n (suc i)
 
 -- to the left, or to the right
-abbrev pub moved : {A : Type 0} → Bool → A → ℕ → List A → List A
-moved true b k xs = table (up_one b k xs) (length xs) 0
-moved false b k xs = table (down_one b k xs) (length xs) 0
+abbrev pub moved : {A : Type 0} → Direction → A → ℕ → List A → List A
+moved Left b k xs = table (up_one b k xs) (length xs) 0
+moved Right b k xs = table (down_one b k xs) (length xs) 0
 
 -- A barrel: a stage for each bit of the count whose place k is below the width n; a 1 among the other
 -- bits shifts everything out.
-abbrev pub shift_b : Bool → Bool → ℕ → ℕ → List Bool → List Bool → List Bool
-shift_b left b n k xs [] = xs
-shift_b left b n k xs (c ∷ cs) = cond (nat_lt k n) (shift_b left b n (k + k) (zip_b (cond c) (moved left b k xs) xs) cs) (zip_b (cond (any_b (c ∷ cs) false)) (fill b xs) xs)
+abbrev pub shift_bits : Direction → Bool → ℕ → ℕ → List Bool → List Bool → List Bool
+shift_bits direction b n k xs [] = xs
+shift_bits direction b n k xs (c ∷ cs) = cond (nat_lt k n) (shift_bits direction b n (k + k) (zip_bits (cond c) (moved direction b k xs) xs) cs) (zip_bits (cond (any_bits (c ∷ cs) false)) (fill b xs) xs)
 
 abbrev pub top_of : {A : Type 0} → A → List A → A
 top_of z [] = z
 top_of z (x ∷ xs) = top x xs
 
 -- an operation as its circuit; quotient and remainder have none: their words are chosen so that the divider's test holds
-abbrev pub unary_b : UnaryOp → List Bool → List Bool
-unary_b Not xs = not_b xs
-unary_b Neg xs = neg_b xs
+abbrev pub unary_bits : UnaryOp → List Bool → List Bool
+unary_bits Not xs = not_bits xs
+unary_bits Neg xs = neg_bits xs
 
-abbrev pub binary_b : BinaryOp → List Bool → List Bool → List Bool
-binary_b Add xs ys = add_b xs ys false
-binary_b Sub xs ys = sub_b xs ys
-binary_b Mul xs ys = mul_b xs ys
-binary_b Udiv xs ys = fill false xs
-binary_b Urem xs ys = fill false xs
-binary_b And xs ys = zip_b ◌&&◌ xs ys
-binary_b Or xs ys = zip_b ◌||◌ xs ys
-binary_b Xor xs ys = zip_b xor xs ys
-binary_b Shl xs ys = shift_b true false (length xs) 1 xs ys
-binary_b Lshr xs ys = shift_b false false (length xs) 1 xs ys
-binary_b Ashr xs ys = shift_b false (top_of false xs) (length xs) 1 xs ys
-binary_b Comp xs ys = flag false (equal_b xs ys true) xs
-binary_b Ult xs ys = flag false (ult_b xs ys) xs
-binary_b Slt xs ys = flag false (slt_b xs ys) xs
+abbrev pub binary_bits : BinaryOp → List Bool → List Bool → List Bool
+binary_bits Add xs ys = add_bits xs ys false
+binary_bits Sub xs ys = sub_bits xs ys
+binary_bits Mul xs ys = mul_bits xs ys
+binary_bits Udiv xs ys = fill false xs
+binary_bits Urem xs ys = fill false xs
+binary_bits And xs ys = zip_bits ◌&&◌ xs ys
+binary_bits Or xs ys = zip_bits ◌||◌ xs ys
+binary_bits Xor xs ys = zip_bits xor xs ys
+binary_bits Shl xs ys = shift_bits Left false (length xs) 1 xs ys
+binary_bits Lshr xs ys = shift_bits Right false (length xs) 1 xs ys
+binary_bits Ashr xs ys = shift_bits Right (top_of false xs) (length xs) 1 xs ys
+binary_bits Comp xs ys = flag false (equal_bits xs ys true) xs
+binary_bits Ult xs ys = flag false (ult_bits xs ys) xs
+binary_bits Slt xs ys = flag false (slt_bits xs ys) xs
 
 -- the operations whose words are chosen
 abbrev pub divides : BinaryOp → Bool

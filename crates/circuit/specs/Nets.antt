@@ -1,5 +1,5 @@
 -- A net: clauses that are written one after the other, and the next variable that none of them has.
-use Rattle.std.specs.Prelude.{ℕ, zero, suc, ◌+◌, ◌-◌, ◌*◌, ◌%◌, Bool, cond, List, [], ◌∷◌, ◌++◌, ◌==◌}
+use Rattle.std.specs.Prelude.{ℕ, zero, suc, ◌+◌, ◌*◌, Bool, List, [], ◌∷◌, ◌++◌, ◌==◌}
 use Rattle.clauses.specs.declared.literal.Literal.{Literal}
 
 -- the clauses as numbers: a literal by its code, 2 v + 2 for variable v and 2 v + 3 for its negation, and a 0 after each clause
@@ -13,9 +13,6 @@ high = record { 0 = 2 }
 
 abbrev pub low : Literal
 low = record { 0 = 3 }
-
-abbrev pub negated : Literal → Literal
-negated l = record { 0 = cond (l.0 % 2 == 0) (l.0 + 1) (l.0 - 1) }
 
 abbrev pub same : Literal → Literal → Bool
 same a b = a.0 == b.0

@@ -1,40 +1,35 @@
 -- The parts of circuits that the code does in functions of their own.
-use Rattle.std.specs.Prelude.{ℕ, Bool, true, false, List, [], ◌∷◌, ◌++◌}
+use Rattle.std.specs.Prelude.{ℕ, List, [], ◌∷◌, ◌++◌}
 use Rattle.clauses.specs.declared.literal.Literal.{Literal}
-use Rattle.circuit.specs.Bits.{topped}
-use Rattle.circuit.specs.Nets.{Net, low, negated, said}
-use Rattle.circuit.specs.Gates.{and_n, xor_n}
-use Rattle.circuit.specs.Circuits.{full_n, add_n, less_n, any_n, row_n, equated_n, unless_n}
+use Rattle.clauses.specs.Literals.{negated}
+use Rattle.circuit.specs.Nets.{Net, low, said}
+use Rattle.circuit.specs.Gates.{and_net, xor_net}
+use Rattle.circuit.specs.Circuits.{full_net, add_net, less_net, any_net, row_net, equated_net, unless_net}
 
 -- more numbers
 abbrev pub appended : List ℕ → Net → Net
 appended xs n = record { next = n.next; out = n.out ++ xs }
 
--- a word as it is compared with another: as it is, or as two's complement
-abbrev pub compared : Bool → List Literal → List Literal → List Literal
-compared true xs ys = topped xs ys
-compared false xs ys = xs
-
 -- c, and x and y equal
-unfoldable pub equal_bit_n : Literal → Literal → Literal → Net → Net × Literal
-equal_bit_n x y c n = let d = xor_n x y n in and_n c (negated d.1) d.0
+unfoldable pub equal_bit_net : Literal → Literal → Literal → Net → Net × Literal
+equal_bit_net x y c n = let d = xor_net x y n in and_net c (negated d.1) d.0
 
 -- the sum of q, a carry, and y if x
-unfoldable pub row_bit_n : Literal → Literal → Literal → Literal → Net → Net × (Literal × Literal)
-row_bit_n x y q c n = let a = and_n x y n in full_n a.1 q c a.0
+unfoldable pub row_bit_net : Literal → Literal → Literal → Literal → Net → Net × (Literal × Literal)
+row_bit_net x y q c n = let a = and_net x y n in full_net a.1 q c a.0
 
 -- a row of a product with its lowest bit, to which nothing is added
-abbrev pub product_row_n : Literal → List Literal → List Literal → Net → Net × (List Literal × Literal)
-product_row_n x [] qs n = (n, ([], low))
-product_row_n x (y ∷ ys) qs n = let p = and_n x y n in let r = row_n x ys qs low p.0 in (r.0, (p.1 ∷ r.1.0, r.1.1))
+abbrev pub product_row_net : Literal → List Literal → List Literal → Net → Net × (List Literal × Literal)
+product_row_net x [] qs n = (n, ([], low))
+product_row_net x (y ∷ ys) qs n = let p = and_net x y n in let r = row_net x ys qs low p.0 in (r.0, (p.1 ∷ r.1.0, r.1.1))
 
 -- ps and rs have the sum xs, with nothing carried out
-abbrev pub sums_n : List Literal → List Literal → List Literal → Net → Net
-sums_n ps rs xs n = let s = add_n ps rs low n in equated_n s.1.0 xs (said (negated s.1.1 ∷ []) s.0)
+abbrev pub sums_net : List Literal → List Literal → List Literal → Net → Net
+sums_net ps rs xs n = let s = add_net ps rs low n in equated_net s.1.0 xs (said (negated s.1.1 ∷ []) s.0)
 
 -- rs is below ys, or ys is 0 and qs all ones
-abbrev pub bounded_n : List Literal → List Literal → List Literal → Net → Net
-bounded_n rs ys qs n =
-    let l = less_n rs ys n in
-    let a = any_n ys low l.0 in
-    unless_n a.1 qs (said (negated a.1 ∷ l.1 ∷ []) a.0)
+abbrev pub bounded_net : List Literal → List Literal → List Literal → Net → Net
+bounded_net rs ys qs n =
+    let l = less_net rs ys n in
+    let a = any_net ys low l.0 in
+    unless_net a.1 qs (said (negated a.1 ∷ l.1 ∷ []) a.0)

@@ -1,63 +1,52 @@
 // Sums of words by a ripple of carries.
-ghost use Rattle.std.specs.Prelude.{◌≡◌, length, if◌then◌else◌};
-ghost use Rattle.circuit.specs.Nets.{negated as opposite};
-ghost use Rattle.circuit.specs.Circuits.{turned, full_n, add_n};
-ghost use Rattle.circuit.specs.Built.{built, Fits, Wrote};
+ghost use Rattle.std.specs.Prelude.{◌≡◌};
+ghost use Rattle.circuit.specs.Circuits.{full_net, add_net};
+ghost use Rattle.circuit.specs.Built.{Fits, Wrote};
 
-use crate::builder::{Builder, negated};
+use crate::builder::{Builder, LOW};
 use clauses::Literal;
 
-// The sum of three bits.
+// A sum, of bits or of words, and what is carried out of it.
 #[derive(Clone, Copy)]
-pub struct Sum {
-    pub bit: Literal,
+pub struct Sum<T> {
+    pub sum: T,
     pub carry: Literal,
-}
-
-// The literal, negated if asked.
-fn turn(literal: Literal, invert: bool) -> Literal
-    ensures { result ≡ (if invert then opposite literal else literal) }
-{
-    if invert { negated(literal) } else { literal }
 }
 
 impl Builder<'_> {
     // A full adder.
-    pub fn full(&mut self, x: Literal, y: Literal, carry: Literal) -> Sum
-        requires { Fits self.old (full_n x y carry (built self.old)).0 }
-        ensures wrote { Wrote self.old self.new (full_n x y carry (built self.old)).0 }
-        ensures bit { result.bit ≡ (full_n x y carry (built self.old)).1.0 }
-        ensures over { result.carry ≡ (full_n x y carry (built self.old)).1.1 }
+    pub fn full(&mut self, x: Literal, y: Literal, carry: Literal) -> Sum<Literal>
+        requires { Fits self.old (full_net x y carry self.old.net).0 }
+        ensures wrote { Wrote self.old self.new (full_net x y carry self.old.net).0 }
+        ensures bit { result.sum ≡ (full_net x y carry self.old.net).1.0 }
+        ensures over { result.carry ≡ (full_net x y carry self.old.net).1.1 }
     {
         let half = self.xor(x, y);
-        let bit = self.xor(half, carry);
+        let sum = self.xor(half, carry);
         let over = self.majority(x, y, carry);
-        Sum { bit, carry: over }
+        Sum { sum, carry: over }
     }
 
-    // x + y and what is carried in, or x - y if y is inverted and 1 is carried in. Gives what is carried out.
-    pub fn add(
+    // x + y and what is carried in.
+    pub fn add<const WIDTH: usize>(
         &mut self,
-        x: &[Literal],
-        y: &[Literal],
-        invert: bool,
+        x: &[Literal; WIDTH],
+        y: &[Literal; WIDTH],
         carry: Literal,
-        out: &mut [Literal],
-    ) -> Literal
-        requires operand { length y.now ≡ length x.now }
-        requires word { length out.old ≡ length x.now }
-        requires room { Fits self.old (add_n x.now (turned invert y.now) carry (built self.old)).0 }
-        ensures wrote { Wrote self.old self.new (add_n x.now (turned invert y.now) carry (built self.old)).0 }
-        ensures sum { out.new ≡ (add_n x.now (turned invert y.now) carry (built self.old)).1.0 }
-        ensures over { result ≡ (add_n x.now (turned invert y.now) carry (built self.old)).1.1 }
+    ) -> Sum<[Literal; WIDTH]>
+        requires { Fits self.old (add_net x.now y.now carry self.old.net).0 }
+        ensures wrote { Wrote self.old self.new (add_net x.now y.now carry self.old.net).0 }
+        ensures sum { result.sum ≡ (add_net x.now y.now carry self.old.net).1.0 }
+        ensures over { result.carry ≡ (add_net x.now y.now carry self.old.net).1.1 }
     {
+        // written by its place: a proof knows nothing of what is written through a zip
+        let mut sum = [LOW; WIDTH];
         let mut over = carry;
-        for i in 0..x.len() {
-            let other = turn(y[i], invert);
-            let sum = self.full(x[i], other, over);
-            out[i] = sum.bit;
-            over = sum.carry;
+        for (i, (a, b)) in x.iter().zip(y).enumerate() {
+            let bits = self.full(*a, *b, over);
+            sum[i] = bits.sum;
+            over = bits.carry;
         }
-        over
+        Sum { sum, carry: over }
     }
 }

@@ -2,19 +2,28 @@
 //
 // A clause is its literals' codes and then a 0. A builder only writes behind what it has written, so
 // the clauses of a circuit stand in the order in which the circuit makes them.
-ghost use Rattle.std.specs.Prelude.{◌≡◌, ◌≤◌, [], ◌∷◌, length};
-ghost use Rattle.circuit.specs.Nets.{said, fresh, taken, free};
-ghost use Rattle.circuit.specs.Nets.{negated as opposite};
+ghost use Rattle.std.specs.Prelude.{◌≡◌, ◌≤◌, [], ◌∷◌, length, map, take};
+ghost use Rattle.circuit.specs.Nets.{said, said_all, fresh, taken, free};
 ghost use Rattle.circuit.specs.Parts.{appended};
-ghost use Rattle.circuit.specs.Built.{built, Fits, Wrote};
+ghost use Rattle.circuit.specs.Built.{Written, Fits, Wrote};
 
 use clauses::Literal;
+use std::marker::Model;
 
 #[derive(Drop)]
 pub struct Builder<'a> {
+    // the memory is lent, as no library here has a heap
     numbers: &'a mut [u32],
-    length: usize,
+    end: usize,
     next: u32,
+}
+
+impl<'a> Model for Builder<'a> {
+    ghost Value = { Written };
+
+    ghost view = { λ b. record { net = record { next = b.next; out = take b.end b.numbers.now }; room = length b.numbers.now } };
+
+    ghost invariant = { λ b. b.end ≤ length b.numbers.now };
 }
 
 // The literals of variable 0, which is true in each net.
@@ -22,105 +31,74 @@ pub const HIGH: Literal = Literal(2);
 
 pub const LOW: Literal = Literal(3);
 
-// The other literal of the same variable; of any code, so that no caller has to know that it is one.
-pub fn negated(literal: Literal) -> Literal
-    ensures { result ≡ opposite literal }
-{
-    if literal.0 % 2 == 0 {
-        Literal(literal.0 + 1)
-    } else {
-        Literal(literal.0 - 1)
-    }
-}
-
 impl<'a> Builder<'a> {
     // No clause yet, and the new variables from next on.
     pub fn new(numbers: &'a mut [u32], next: u32) -> Builder<'a>
-        ensures net { built result ≡ record { next = next; out = [] } }
-        ensures size { length result.numbers.now ≡ length numbers.old }
-        ensures inside { result.length ≤ length result.numbers.now }
+        ensures { result ≡ record { net = record { next = next; out = [] }; room = length numbers.old } }
     {
         Builder {
             numbers,
-            length: 0,
+            end: 0,
             next,
         }
     }
 
     // How many numbers are written.
     pub fn length(&self) -> usize
-        ensures { result ≡ self.now.length }
+        ensures { result ≡ length self.now.net.out }
     {
-        self.length
+        self.end
     }
 
     // The clauses that are written.
     pub fn written(&self) -> &[u32]
-        requires { self.now.length ≤ length self.now.numbers.now }
-        ensures { result.now ≡ (built self.now).out }
+        ensures { result.now ≡ self.now.net.out }
     {
-        &self.numbers[0..self.length]
+        &self.numbers[..self.end]
     }
 
     // The next variable.
     pub fn next(&self) -> u32
-        ensures { result ≡ (built self.now).next }
+        ensures { result ≡ self.now.net.next }
     {
         self.next
     }
 
     // Writes one number behind the others.
     fn push(&mut self, number: u32)
-        requires { Fits self.old (appended (number ∷ []) (built self.old)) }
-        ensures { Wrote self.old self.new (appended (number ∷ []) (built self.old)) }
+        requires { Fits self.old (appended (number ∷ []) self.old.net) }
+        ensures { Wrote self.old self.new (appended (number ∷ []) self.old.net) }
     {
-        self.numbers[self.length] = number;
-        self.length += 1;
+        self.numbers[self.end] = number;
+        self.end += 1;
     }
 
-    // The clause of one literal.
-    pub fn clause1(&mut self, a: Literal)
-        requires { Fits self.old (said (a ∷ []) (built self.old)) }
-        ensures { Wrote self.old self.new (said (a ∷ []) (built self.old)) }
+    // The clause of some literals.
+    pub fn clause(&mut self, literals: &[Literal])
+        requires { Fits self.old (said literals.now self.old.net) }
+        ensures { Wrote self.old self.new (said literals.now self.old.net) }
     {
-        self.push(a.0);
-        self.push(0);
-    }
-
-    // The clause of two literals.
-    pub fn clause2(&mut self, a: Literal, b: Literal)
-        requires { Fits self.old (said (a ∷ b ∷ []) (built self.old)) }
-        ensures { Wrote self.old self.new (said (a ∷ b ∷ []) (built self.old)) }
-    {
-        self.push(a.0);
-        self.clause1(b);
-    }
-
-    // The clause of three literals.
-    pub fn clause3(&mut self, a: Literal, b: Literal, c: Literal)
-        requires { Fits self.old (said (a ∷ b ∷ c ∷ []) (built self.old)) }
-        ensures { Wrote self.old self.new (said (a ∷ b ∷ c ∷ []) (built self.old)) }
-    {
-        self.push(a.0);
-        self.clause2(b, c);
-    }
-
-    // The clause of all the literals of a word.
-    pub fn clause(&mut self, word: &[Literal])
-        requires { Fits self.old (said word.now (built self.old)) }
-        ensures { Wrote self.old self.new (said word.now (built self.old)) }
-    {
-        for i in 0..word.len() {
-            self.push(word[i].0);
+        for literal in literals {
+            self.push(literal.0);
         }
         self.push(0);
     }
 
+    // Some clauses, one after the other.
+    pub(crate) fn clauses(&mut self, rows: &[&[Literal]])
+        requires { Fits self.old (said_all (map (λ r. r.now) rows.now) self.old.net) }
+        ensures { Wrote self.old self.new (said_all (map (λ r. r.now) rows.now) self.old.net) }
+    {
+        for row in rows {
+            self.clause(row);
+        }
+    }
+
     // The literal of a new variable.
     pub fn fresh(&mut self) -> Literal
-        requires { Fits self.old (taken (built self.old)) }
-        ensures wrote { Wrote self.old self.new (taken (built self.old)) }
-        ensures literal { result ≡ fresh (built self.old) }
+        requires { Fits self.old (taken self.old.net) }
+        ensures wrote { Wrote self.old self.new (taken self.old.net) }
+        ensures literal { result ≡ fresh self.old.net }
     {
         let literal = Literal(2 * self.next + 2);
         self.next += 1;
@@ -129,8 +107,8 @@ impl<'a> Builder<'a> {
 
     // So many new variables that no clause is about yet.
     pub fn skip(&mut self, count: u32)
-        requires { Fits self.old (free count (built self.old)) }
-        ensures { Wrote self.old self.new (free count (built self.old)) }
+        requires { Fits self.old (free count self.old.net) }
+        ensures { Wrote self.old self.new (free count self.old.net) }
     {
         self.next += count;
     }

@@ -1,78 +1,95 @@
 // Comparisons of words: one literal that says how two words compare, or whether a word has a 1.
-ghost use Rattle.std.specs.Prelude.{◌≡◌, ◌<◌, length, slice_index_or};
+ghost use Rattle.std.specs.Prelude.{◌≡◌};
+ghost use Rattle.circuit.specs.Bits.{topped};
 ghost use Rattle.circuit.specs.Nets.{high, low};
-ghost use Rattle.circuit.specs.Circuits.{less_n, equal_n, any_n};
-ghost use Rattle.circuit.specs.Parts.{compared, equal_bit_n};
-ghost use Rattle.circuit.specs.Built.{built, Fits, Wrote};
+ghost use Rattle.circuit.specs.Circuits.{less_net, equal_net, any_net};
+ghost use Rattle.circuit.specs.Parts.{equal_bit_net};
+ghost use Rattle.circuit.specs.Built.{Fits, Wrote};
 
-use crate::builder::{Builder, HIGH, LOW, negated};
+use crate::builder::{Builder, HIGH, LOW};
 use clauses::Literal;
 
-// Bit i of x as it is compared with y: as two's complement the top bits change places.
-fn compared_bit(x: &[Literal], y: &[Literal], signed: bool, i: usize) -> Literal
-    requires inside { i < length x.now }
-    requires operand { length y.now ≡ length x.now }
-    ensures { result ≡ slice_index_or (compared signed x.now y.now) i (record { 0 = 0 }) }
+// x with the top bit of y.
+fn with_top_of<const WIDTH: usize>(x: &[Literal; WIDTH], y: &[Literal; WIDTH]) -> [Literal; WIDTH]
+    ensures { result ≡ topped x.now y.now }
 {
-    if signed && i + 1 == x.len() {
-        y[i]
-    } else {
-        x[i]
+    let mut word = *x;
+    if WIDTH > 0 {
+        word[WIDTH - 1] = y[WIDTH - 1];
     }
+    word
 }
 
 impl Builder<'_> {
-    // Whether x is below y, without sign or as two's complement: whether x - y borrows.
-    pub fn less(&mut self, x: &[Literal], y: &[Literal], signed: bool) -> Literal
-        requires operand { length y.now ≡ length x.now }
-        requires room { Fits self.old (less_n (compared signed x.now y.now) (compared signed y.now x.now) (built self.old)).0 }
-        ensures wrote { Wrote self.old self.new (less_n (compared signed x.now y.now) (compared signed y.now x.now) (built self.old)).0 }
-        ensures output { result ≡ (less_n (compared signed x.now y.now) (compared signed y.now x.now) (built self.old)).1 }
+    // Whether x is below y, without sign: whether x - y borrows.
+    pub fn less<const WIDTH: usize>(
+        &mut self,
+        x: &[Literal; WIDTH],
+        y: &[Literal; WIDTH],
+    ) -> Literal
+        requires { Fits self.old (less_net x.now y.now self.old.net).0 }
+        ensures wrote { Wrote self.old self.new (less_net x.now y.now self.old.net).0 }
+        ensures output { result ≡ (less_net x.now y.now self.old.net).1 }
     {
         let mut enough = HIGH;
-        for i in 0..x.len() {
-            let left = compared_bit(x, y, signed, i);
-            let right = compared_bit(y, x, signed, i);
-            let inverse = negated(right);
-            enough = self.majority(left, inverse, enough);
+        for (a, b) in x.iter().zip(y) {
+            enough = self.majority(*a, b.negated(), enough);
         }
-        negated(enough)
+        enough.negated()
+    }
+
+    // Whether x is below y as two's complement: without sign once the top bits change places.
+    pub fn signed_less<const WIDTH: usize>(
+        &mut self,
+        x: &[Literal; WIDTH],
+        y: &[Literal; WIDTH],
+    ) -> Literal
+        requires { Fits self.old (less_net (topped x.now y.now) (topped y.now x.now) self.old.net).0 }
+        ensures wrote { Wrote self.old self.new (less_net (topped x.now y.now) (topped y.now x.now) self.old.net).0 }
+        ensures output { result ≡ (less_net (topped x.now y.now) (topped y.now x.now) self.old.net).1 }
+    {
+        let left = with_top_of(x, y);
+        let right = with_top_of(y, x);
+        self.less(&left, &right)
     }
 
     // Whether two bits are equal, and the bits so far.
     fn equal_bit(&mut self, x: Literal, y: Literal, before: Literal) -> Literal
-        requires { Fits self.old (equal_bit_n x y before (built self.old)).0 }
-        ensures wrote { Wrote self.old self.new (equal_bit_n x y before (built self.old)).0 }
-        ensures output { result ≡ (equal_bit_n x y before (built self.old)).1 }
+        requires { Fits self.old (equal_bit_net x y before self.old.net).0 }
+        ensures wrote { Wrote self.old self.new (equal_bit_net x y before self.old.net).0 }
+        ensures output { result ≡ (equal_bit_net x y before self.old.net).1 }
     {
         let apart = self.xor(x, y);
-        let alike = negated(apart);
+        let alike = apart.negated();
         self.and(before, alike)
     }
 
     // Whether x and y are equal.
-    pub fn equal(&mut self, x: &[Literal], y: &[Literal]) -> Literal
-        requires operand { length y.now ≡ length x.now }
-        requires room { Fits self.old (equal_n x.now y.now high (built self.old)).0 }
-        ensures wrote { Wrote self.old self.new (equal_n x.now y.now high (built self.old)).0 }
-        ensures output { result ≡ (equal_n x.now y.now high (built self.old)).1 }
+    pub fn equal<const WIDTH: usize>(
+        &mut self,
+        x: &[Literal; WIDTH],
+        y: &[Literal; WIDTH],
+    ) -> Literal
+        requires { Fits self.old (equal_net x.now y.now high self.old.net).0 }
+        ensures wrote { Wrote self.old self.new (equal_net x.now y.now high self.old.net).0 }
+        ensures output { result ≡ (equal_net x.now y.now high self.old.net).1 }
     {
         let mut so_far = HIGH;
-        for i in 0..x.len() {
-            so_far = self.equal_bit(x[i], y[i], so_far);
+        for (a, b) in x.iter().zip(y) {
+            so_far = self.equal_bit(*a, *b, so_far);
         }
         so_far
     }
 
     // Whether x has a 1.
     pub fn any(&mut self, x: &[Literal]) -> Literal
-        requires { Fits self.old (any_n x.now low (built self.old)).0 }
-        ensures wrote { Wrote self.old self.new (any_n x.now low (built self.old)).0 }
-        ensures output { result ≡ (any_n x.now low (built self.old)).1 }
+        requires { Fits self.old (any_net x.now low self.old.net).0 }
+        ensures wrote { Wrote self.old self.new (any_net x.now low self.old.net).0 }
+        ensures output { result ≡ (any_net x.now low self.old.net).1 }
     {
         let mut so_far = LOW;
-        for i in 0..x.len() {
-            so_far = self.or(so_far, x[i]);
+        for bit in x {
+            so_far = self.or(so_far, *bit);
         }
         so_far
     }

@@ -1,130 +1,116 @@
 // Division by clauses: a quotient and a remainder are words of free variables, and the clauses leave them
 // exactly one pair of values.
 ghost use Rattle.std.specs.Prelude.{◌≡◌, ◌≤◌, length};
-ghost use Rattle.circuit.specs.Circuits.{denied_n, none_n, apart_n, equated_n, unless_n, divides_n};
-ghost use Rattle.circuit.specs.Parts.{sums_n, bounded_n};
-ghost use Rattle.circuit.specs.Built.{built, Fits, Wrote};
+ghost use Rattle.circuit.specs.Circuits.{denied_net, none_net, apart_net, equated_net, unless_net, divides_net};
+ghost use Rattle.circuit.specs.Parts.{sums_net, bounded_net};
+ghost use Rattle.circuit.specs.Built.{Fits, Wrote};
 
-use crate::builder::{Builder, LOW, negated};
+use crate::builder::{Builder, LOW};
 use clauses::Literal;
 
+// Each kind of clause has a loop of its own: one loop would take the clause as a closure, of which the
+// definition of its net would have to speak.
 impl Builder<'_> {
     // x has no 1.
     fn deny(&mut self, x: &[Literal])
-        requires { Fits self.old (denied_n x.now (built self.old)) }
-        ensures { Wrote self.old self.new (denied_n x.now (built self.old)) }
+        requires { Fits self.old (denied_net x.now self.old.net) }
+        ensures { Wrote self.old self.new (denied_net x.now self.old.net) }
     {
-        for i in 0..x.len() {
-            let off = negated(x[i]);
-            self.clause1(off);
+        for bit in x {
+            self.clause(&[bit.negated()]);
         }
     }
 
     // No bit of x is 1 together with b.
     fn exclude(&mut self, b: Literal, x: &[Literal])
-        requires { Fits self.old (none_n b x.now (built self.old)) }
-        ensures { Wrote self.old self.new (none_n b x.now (built self.old)) }
+        requires { Fits self.old (none_net b x.now self.old.net) }
+        ensures { Wrote self.old self.new (none_net b x.now self.old.net) }
     {
-        for i in 0..x.len() {
-            let off = negated(x[i]);
-            let not_b = negated(b);
-            self.clause2(off, not_b);
+        for bit in x {
+            self.clause(&[bit.negated(), b.negated()]);
         }
     }
 
     // No bits of x and y meet at a place that their product's word doesn't have.
-    fn separate(&mut self, x: &[Literal], y: &[Literal])
-        requires operand { length y.now ≡ length x.now }
-        requires room { Fits self.old (apart_n x.now y.now (built self.old)) }
-        ensures { Wrote self.old self.new (apart_n x.now y.now (built self.old)) }
+    fn separate<const WIDTH: usize>(&mut self, x: &[Literal; WIDTH], y: &[Literal; WIDTH])
+        requires { Fits self.old (apart_net x.now y.now self.old.net) }
+        ensures { Wrote self.old self.new (apart_net x.now y.now self.old.net) }
     {
-        let width = x.len();
-        for i in 0..width {
-            self.exclude(y[width - i - 1], &x[i + 1..width]);
+        let word: &[Literal] = x;
+        for (i, bit) in y.iter().rev().enumerate() {
+            self.exclude(*bit, &word[i + 1..]);
         }
     }
 
     // x and y are equal.
-    fn equate(&mut self, x: &[Literal], y: &[Literal])
-        requires operand { length y.now ≡ length x.now }
-        requires room { Fits self.old (equated_n x.now y.now (built self.old)) }
-        ensures { Wrote self.old self.new (equated_n x.now y.now (built self.old)) }
+    fn equate<const WIDTH: usize>(&mut self, x: &[Literal; WIDTH], y: &[Literal; WIDTH])
+        requires { Fits self.old (equated_net x.now y.now self.old.net) }
+        ensures { Wrote self.old self.new (equated_net x.now y.now self.old.net) }
     {
-        for i in 0..x.len() {
-            let not_x = negated(x[i]);
-            let not_y = negated(y[i]);
-            self.clause2(not_x, y[i]);
-            self.clause2(x[i], not_y);
+        for (a, b) in x.iter().zip(y) {
+            self.clause(&[a.negated(), *b]);
+            self.clause(&[*a, b.negated()]);
         }
     }
 
     // The bits of x are all 1, unless a.
     fn unless(&mut self, a: Literal, x: &[Literal])
-        requires { Fits self.old (unless_n a x.now (built self.old)) }
-        ensures { Wrote self.old self.new (unless_n a x.now (built self.old)) }
+        requires { Fits self.old (unless_net a x.now self.old.net) }
+        ensures { Wrote self.old self.new (unless_net a x.now self.old.net) }
     {
-        for i in 0..x.len() {
-            self.clause2(a, x[i]);
+        for bit in x {
+            self.clause(&[a, *bit]);
         }
     }
 
-    // The product and the remainder have the sum x, with nothing carried out. The sum is written to a
-    // word that is lent for it.
-    fn sums(
+    // The product and the remainder have the sum x, with nothing carried out.
+    fn sums<const WIDTH: usize>(
         &mut self,
-        product: &[Literal],
-        remainder: &[Literal],
-        x: &[Literal],
-        sum: &mut [Literal],
+        product: &[Literal; WIDTH],
+        remainder: &[Literal; WIDTH],
+        x: &[Literal; WIDTH],
     )
-        requires product { length product.now ≡ length x.now }
-        requires remainder { length remainder.now ≡ length x.now }
-        requires sum { length sum.old ≡ length x.now }
-        requires room { Fits self.old (sums_n product.now remainder.now x.now (built self.old)) }
-        ensures { Wrote self.old self.new (sums_n product.now remainder.now x.now (built self.old)) }
+        requires { Fits self.old (sums_net product.now remainder.now x.now self.old.net) }
+        ensures { Wrote self.old self.new (sums_net product.now remainder.now x.now self.old.net) }
     {
-        let over = self.add(product, remainder, false, LOW, sum);
-        let whole = negated(over);
-        self.clause1(whole);
-        self.equate(sum, x);
+        let total = self.add(product, remainder, LOW);
+        self.clause(&[total.carry.negated()]);
+        self.equate(&total.sum, x);
     }
 
     // The remainder is below y, or y is 0 and the quotient all ones.
-    fn bounds(&mut self, remainder: &[Literal], y: &[Literal], quotient: &[Literal])
-        requires operand { length y.now ≡ length remainder.now }
-        requires room { Fits self.old (bounded_n remainder.now y.now quotient.now (built self.old)) }
-        ensures { Wrote self.old self.new (bounded_n remainder.now y.now quotient.now (built self.old)) }
+    fn bounds<const WIDTH: usize>(
+        &mut self,
+        remainder: &[Literal; WIDTH],
+        y: &[Literal; WIDTH],
+        quotient: &[Literal; WIDTH],
+    )
+        requires { Fits self.old (bounded_net remainder.now y.now quotient.now self.old.net) }
+        ensures { Wrote self.old self.new (bounded_net remainder.now y.now quotient.now self.old.net) }
     {
-        let less = self.less(remainder, y, false);
+        let less = self.less(remainder, y);
         let some = self.any(y);
-        let zero = negated(some);
-        self.clause2(zero, less);
+        self.clause(&[some.negated(), less]);
         self.unless(some, quotient);
     }
 
     // x divided by y has this quotient and this remainder, where the product is that of y and the
     // quotient, and the carries are those out of its rows.
-    pub fn divides(
+    pub fn divides<const WIDTH: usize>(
         &mut self,
-        x: &[Literal],
-        y: &[Literal],
-        quotient: &[Literal],
-        remainder: &[Literal],
-        product: &[Literal],
+        x: &[Literal; WIDTH],
+        y: &[Literal; WIDTH],
+        quotient: &[Literal; WIDTH],
+        remainder: &[Literal; WIDTH],
+        product: &[Literal; WIDTH],
         carries: &[Literal],
     )
-        requires short { length x.now ≤ 64 }
-        requires operand { length y.now ≡ length x.now }
-        requires quotient { length quotient.now ≡ length x.now }
-        requires remainder { length remainder.now ≡ length x.now }
-        requires product { length product.now ≡ length x.now }
-        requires room { Fits self.old (divides_n x.now y.now quotient.now remainder.now product.now carries.now (built self.old)) }
-        ensures { Wrote self.old self.new (divides_n x.now y.now quotient.now remainder.now product.now carries.now (built self.old)) }
+        requires { Fits self.old (divides_net x.now y.now quotient.now remainder.now product.now carries.now self.old.net) }
+        ensures { Wrote self.old self.new (divides_net x.now y.now quotient.now remainder.now product.now carries.now self.old.net) }
     {
-        let mut buffer = [LOW; 64];
         self.deny(carries);
         self.separate(y, quotient);
-        self.sums(product, remainder, x, &mut buffer[0..x.len()]);
+        self.sums(product, remainder, x);
         self.bounds(remainder, y, quotient);
     }
 }

@@ -15,5 +15,7 @@ mod operations;
 mod shifting;
 
 pub use adding::Sum;
-pub use builder::{Builder, HIGH, LOW, negated};
+pub use builder::{Builder, HIGH, LOW};
 pub use gates::{Bitwise, Folded};
+pub use operations::inverted;
+pub use shifting::Direction;

@@ -2,9 +2,9 @@
 // its bit is 1, and to it is added what the rows above give.
 ghost use Rattle.std.specs.Prelude.{◌≡◌, ◌<◌, length, drop};
 ghost use Rattle.circuit.specs.Nets.{low};
-ghost use Rattle.circuit.specs.Circuits.{row_n, product_n};
-ghost use Rattle.circuit.specs.Parts.{row_bit_n, product_row_n};
-ghost use Rattle.circuit.specs.Built.{built, Fits, Wrote};
+ghost use Rattle.circuit.specs.Circuits.{row_net, product_net};
+ghost use Rattle.circuit.specs.Parts.{row_bit_net, product_row_net};
+ghost use Rattle.circuit.specs.Built.{Fits, Wrote};
 
 use crate::adding::Sum;
 use crate::builder::{Builder, LOW};
@@ -12,11 +12,11 @@ use clauses::Literal;
 
 impl Builder<'_> {
     // The sum of a bit of the rows above, a carry, and y if x.
-    fn row_bit(&mut self, x: Literal, y: Literal, above: Literal, carry: Literal) -> Sum
-        requires { Fits self.old (row_bit_n x y above carry (built self.old)).0 }
-        ensures wrote { Wrote self.old self.new (row_bit_n x y above carry (built self.old)).0 }
-        ensures bit { result.bit ≡ (row_bit_n x y above carry (built self.old)).1.0 }
-        ensures over { result.carry ≡ (row_bit_n x y above carry (built self.old)).1.1 }
+    fn row_bit(&mut self, x: Literal, y: Literal, above: Literal, carry: Literal) -> Sum<Literal>
+        requires { Fits self.old (row_bit_net x y above carry self.old.net).0 }
+        ensures wrote { Wrote self.old self.new (row_bit_net x y above carry self.old.net).0 }
+        ensures bit { result.sum ≡ (row_bit_net x y above carry self.old.net).1.0 }
+        ensures over { result.carry ≡ (row_bit_net x y above carry self.old.net).1.1 }
     {
         let both = self.and(x, y);
         self.full(both, above, carry)
@@ -25,15 +25,15 @@ impl Builder<'_> {
     // Adds y, if x, to the word, and gives what is carried out.
     fn row(&mut self, x: Literal, y: &[Literal], word: &mut [Literal]) -> Literal
         requires operand { length word.old ≡ length y.now }
-        requires room { Fits self.old (row_n x y.now word.old low (built self.old)).0 }
-        ensures wrote { Wrote self.old self.new (row_n x y.now word.old low (built self.old)).0 }
-        ensures sum { word.new ≡ (row_n x y.now word.old low (built self.old)).1.0 }
-        ensures over { result ≡ (row_n x y.now word.old low (built self.old)).1.1 }
+        requires room { Fits self.old (row_net x y.now word.old low self.old.net).0 }
+        ensures wrote { Wrote self.old self.new (row_net x y.now word.old low self.old.net).0 }
+        ensures sum { word.new ≡ (row_net x y.now word.old low self.old.net).1.0 }
+        ensures over { result ≡ (row_net x y.now word.old low self.old.net).1.1 }
     {
         let mut over = LOW;
-        for i in 0..y.len() {
-            let sum = self.row_bit(x, y[i], word[i], over);
-            word[i] = sum.bit;
+        for (i, bit) in y.iter().enumerate() {
+            let sum = self.row_bit(x, *bit, word[i], over);
+            word[i] = sum.sum;
             over = sum.carry;
         }
         over
@@ -43,10 +43,10 @@ impl Builder<'_> {
     fn product_row(&mut self, x: Literal, y: &[Literal], word: &mut [Literal]) -> Literal
         requires some { 0 < length y.now }
         requires operand { length word.old ≡ length y.now }
-        requires room { Fits self.old (product_row_n x y.now (drop 1 word.old) (built self.old)).0 }
-        ensures wrote { Wrote self.old self.new (product_row_n x y.now (drop 1 word.old) (built self.old)).0 }
-        ensures sum { word.new ≡ (product_row_n x y.now (drop 1 word.old) (built self.old)).1.0 }
-        ensures over { result ≡ (product_row_n x y.now (drop 1 word.old) (built self.old)).1.1 }
+        requires room { Fits self.old (product_row_net x y.now (drop 1 word.old) self.old.net).0 }
+        ensures wrote { Wrote self.old self.new (product_row_net x y.now (drop 1 word.old) self.old.net).0 }
+        ensures sum { word.new ≡ (product_row_net x y.now (drop 1 word.old) self.old.net).1.0 }
+        ensures over { result ≡ (product_row_net x y.now (drop 1 word.old) self.old.net).1.1 }
     {
         let lowest = self.and(x, y[0]);
         let end = y.len();
@@ -55,25 +55,25 @@ impl Builder<'_> {
         over
     }
 
-    // The product's word, and the carries out of its rows.
-    pub fn product(
+    // The product's word; the carries out of its rows are written beside it.
+    pub fn product<const WIDTH: usize>(
         &mut self,
-        x: &[Literal],
-        y: &[Literal],
-        out: &mut [Literal],
-        carries: &mut [Literal],
-    )
-        requires operand { length y.now ≡ length x.now }
-        requires word { length out.old ≡ length x.now }
-        requires rows { length carries.old ≡ length x.now }
-        requires room { Fits self.old (product_n x.now y.now (built self.old)).0 }
-        ensures wrote { Wrote self.old self.new (product_n x.now y.now (built self.old)).0 }
-        ensures result { out.new ≡ (product_n x.now y.now (built self.old)).1.0 }
-        ensures carries { carries.new ≡ (product_n x.now y.now (built self.old)).1.1 }
+        x: &[Literal; WIDTH],
+        y: &[Literal; WIDTH],
+        carries: &mut [Literal; WIDTH],
+    ) -> [Literal; WIDTH]
+        requires { Fits self.old (product_net x.now y.now self.old.net).0 }
+        ensures wrote { Wrote self.old self.new (product_net x.now y.now self.old.net).0 }
+        ensures word { result ≡ (product_net x.now y.now self.old.net).1.0 }
+        ensures carries { carries.new ≡ (product_net x.now y.now self.old.net).1.1 }
     {
-        let width = x.len();
-        for i in (0..width).rev() {
-            carries[i] = self.product_row(x[i], &y[0..width - i], &mut out[i..width]);
+        let mut word = [LOW; WIDTH];
+        let factor: &[Literal] = y;
+        let bits = &mut word[..];
+        // by the place and not by x's bits, since the place cuts both other words
+        for i in (0..WIDTH).rev() {
+            carries[i] = self.product_row(x[i], &factor[0..WIDTH - i], &mut bits[i..WIDTH]);
         }
+        word
     }
 }

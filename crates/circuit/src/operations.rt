@@ -1,147 +1,92 @@
 // The operations on words, each as the circuit that does it.
-ghost use Rattle.std.specs.Prelude.{◌≡◌, ◌≤◌, length, replicate};
+ghost use Rattle.std.specs.Prelude.{◌≡◌, ◌≤◌, replicate};
 ghost use Rattle.words.specs.declared.BinaryOp.TheVariants.{Mul};
 ghost use Rattle.circuit.specs.Bits.{flag, top_of};
-ghost use Rattle.circuit.specs.Nets.{low, high};
-ghost use Rattle.circuit.specs.Circuits.{inverted, flagged, equal_n, less_n, product_n, unary_n, binary_n};
-ghost use Rattle.circuit.specs.Parts.{compared};
-ghost use Rattle.circuit.specs.Built.{built, Fits, Wrote};
+ghost use Rattle.circuit.specs.Nets.{low};
+ghost use Rattle.circuit.specs.Circuits.{inverted, product_net, unary_net, binary_net};
+ghost use Rattle.circuit.specs.Built.{Fits, Wrote};
 
-use crate::builder::{Builder, HIGH, LOW, negated};
+use crate::builder::{Builder, HIGH, LOW};
 use crate::gates::Bitwise;
+use crate::shifting::Direction;
 use clauses::Literal;
 use words::{BinaryOp, UnaryOp};
 
-// Writes each literal of x negated.
-fn invert(x: &[Literal], out: &mut [Literal])
-    requires { length out.old ≡ length x.now }
-    ensures { out.new ≡ inverted x.now }
+// Each literal of x negated.
+pub fn inverted<const WIDTH: usize>(x: &[Literal; WIDTH]) -> [Literal; WIDTH]
+    ensures { result ≡ inverted x.now }
 {
-    for i in 0..x.len() {
-        out[i] = negated(x[i]);
+    let mut word = [LOW; WIDTH];
+    for (i, bit) in x.iter().enumerate() {
+        word[i] = bit.negated();
     }
+    word
 }
 
-// Writes 0.
-fn clear(out: &mut [Literal])
-    ensures { out.new ≡ replicate (length out.old) low }
+// A word whose lowest bit is this one, and the others 0.
+fn flagged<const WIDTH: usize>(bit: Literal) -> [Literal; WIDTH]
+    ensures { result ≡ flag low bit (replicate WIDTH low) }
 {
-    for i in 0..out.len() {
-        out[i] = LOW;
+    let mut word = [LOW; WIDTH];
+    if WIDTH > 0 {
+        word[0] = bit;
     }
-}
-
-// Writes a word of one bit.
-fn write_flag(bit: Literal, out: &mut [Literal])
-    ensures { out.new ≡ flag low bit out.old }
-{
-    clear(out);
-    if out.len() > 0 {
-        out[0] = bit;
-    }
+    word
 }
 
 // The top bit, or 0 of a word that has none.
 fn top_bit(x: &[Literal]) -> Literal
     ensures { result ≡ top_of low x.now }
 {
-    if x.len() == 0 {
-        return LOW;
-    }
-    x[x.len() - 1]
+    x.last().copied().unwrap_or(LOW)
 }
 
 impl Builder<'_> {
-    // 0 - x, with a word that is lent for the 0.
-    fn negate(&mut self, zero: &mut [Literal], x: &[Literal], out: &mut [Literal])
-        requires zero { length zero.old ≡ length x.now }
-        requires word { length out.old ≡ length x.now }
-        requires room { Fits self.old (unary_n UnaryOp.Neg x.now (built self.old)).0 }
-        ensures wrote { Wrote self.old self.new (unary_n UnaryOp.Neg x.now (built self.old)).0 }
-        ensures result { out.new ≡ (unary_n UnaryOp.Neg x.now (built self.old)).1 }
-    {
-        clear(zero);
-        self.add(zero, x, true, HIGH, out);
-    }
-
-    // Whether x and y are equal, as a word.
-    fn equal_word(&mut self, x: &[Literal], y: &[Literal], out: &mut [Literal])
-        requires operand { length y.now ≡ length x.now }
-        requires word { length out.old ≡ length x.now }
-        requires room { Fits self.old (flagged x.now (equal_n x.now y.now high (built self.old))).0 }
-        ensures wrote { Wrote self.old self.new (flagged x.now (equal_n x.now y.now high (built self.old))).0 }
-        ensures result { out.new ≡ (flagged x.now (equal_n x.now y.now high (built self.old))).1 }
-    {
-        let bit = self.equal(x, y);
-        write_flag(bit, out);
-    }
-
-    // Whether x is below y, as a word.
-    fn less_word(&mut self, x: &[Literal], y: &[Literal], signed: bool, out: &mut [Literal])
-        requires operand { length y.now ≡ length x.now }
-        requires word { length out.old ≡ length x.now }
-        requires room { Fits self.old (flagged x.now (less_n (compared signed x.now y.now) (compared signed y.now x.now) (built self.old))).0 }
-        ensures wrote { Wrote self.old self.new (flagged x.now (less_n (compared signed x.now y.now) (compared signed y.now x.now) (built self.old))).0 }
-        ensures result { out.new ≡ (flagged x.now (less_n (compared signed x.now y.now) (compared signed y.now x.now) (built self.old))).1 }
-    {
-        let bit = self.less(x, y, signed);
-        write_flag(bit, out);
-    }
-
     // An operation on one word.
-    pub fn unary(&mut self, op: UnaryOp, x: &[Literal], out: &mut [Literal])
-        requires short { length x.now ≤ 64 }
-        requires word { length out.old ≡ length x.now }
-        requires room { Fits self.old (unary_n op x.now (built self.old)).0 }
-        ensures wrote { Wrote self.old self.new (unary_n op x.now (built self.old)).0 }
-        ensures result { out.new ≡ (unary_n op x.now (built self.old)).1 }
+    pub fn unary<const WIDTH: usize>(
+        &mut self,
+        op: UnaryOp,
+        x: &[Literal; WIDTH],
+    ) -> [Literal; WIDTH]
+        requires { Fits self.old (unary_net op x.now self.old.net).0 }
+        ensures wrote { Wrote self.old self.new (unary_net op x.now self.old.net).0 }
+        ensures word { result ≡ (unary_net op x.now self.old.net).1 }
     {
         match op {
-            UnaryOp::Not => invert(x, out),
-            UnaryOp::Neg => {
-                let mut buffer = [LOW; 64];
-                self.negate(&mut buffer[0..x.len()], x, out);
-            }
+            UnaryOp::Not => inverted(x),
+            UnaryOp::Neg => self.add(&[LOW; WIDTH], &inverted(x), HIGH).sum,
         }
     }
 
     // An operation on two words; a product's carries are written beside it. A quotient and a remainder
     // have no circuit: 0 stands in their place.
-    pub fn binary(
+    pub fn binary<const WIDTH: usize>(
         &mut self,
         op: BinaryOp,
-        x: &[Literal],
-        y: &[Literal],
-        out: &mut [Literal],
-        carries: &mut [Literal],
-    )
-        requires short { length x.now ≤ 64 }
-        requires operand { length y.now ≡ length x.now }
-        requires word { length out.old ≡ length x.now }
-        requires rows { length carries.old ≡ length x.now }
-        requires room { Fits self.old (binary_n op x.now y.now (built self.old)).0 }
-        ensures wrote { Wrote self.old self.new (binary_n op x.now y.now (built self.old)).0 }
-        ensures result { out.new ≡ (binary_n op x.now y.now (built self.old)).1 }
-        ensures carries { op ≡ Mul → carries.new ≡ (product_n x.now y.now (built self.old)).1.1 }
+        x: &[Literal; WIDTH],
+        y: &[Literal; WIDTH],
+        carries: &mut [Literal; WIDTH],
+    ) -> [Literal; WIDTH]
+        requires short { WIDTH ≤ 64 }
+        requires room { Fits self.old (binary_net op x.now y.now self.old.net).0 }
+        ensures wrote { Wrote self.old self.new (binary_net op x.now y.now self.old.net).0 }
+        ensures word { result ≡ (binary_net op x.now y.now self.old.net).1 }
+        ensures carries { op ≡ Mul → carries.new ≡ (product_net x.now y.now self.old.net).1.1 }
     {
         match op {
-            BinaryOp::Add => {
-                self.add(x, y, false, LOW, out);
-            }
-            BinaryOp::Sub => {
-                self.add(x, y, true, HIGH, out);
-            }
-            BinaryOp::Mul => self.product(x, y, out, carries),
-            BinaryOp::Udiv | BinaryOp::Urem => clear(out),
-            BinaryOp::And => self.bitwise(Bitwise::Conjunction, x, y, out),
-            BinaryOp::Or => self.bitwise(Bitwise::Disjunction, x, y, out),
-            BinaryOp::Xor => self.bitwise(Bitwise::Exclusive, x, y, out),
-            BinaryOp::Shl => self.shift(true, LOW, x, y, out),
-            BinaryOp::Lshr => self.shift(false, LOW, x, y, out),
-            BinaryOp::Ashr => self.shift(false, top_bit(x), x, y, out),
-            BinaryOp::Comp => self.equal_word(x, y, out),
-            BinaryOp::Ult => self.less_word(x, y, false, out),
-            BinaryOp::Slt => self.less_word(x, y, true, out),
+            BinaryOp::Add => self.add(x, y, LOW).sum,
+            BinaryOp::Sub => self.add(x, &inverted(y), HIGH).sum,
+            BinaryOp::Mul => self.product(x, y, carries),
+            BinaryOp::Udiv | BinaryOp::Urem => [LOW; WIDTH],
+            BinaryOp::And => self.bitwise(Bitwise::Conjunction, x, y),
+            BinaryOp::Or => self.bitwise(Bitwise::Disjunction, x, y),
+            BinaryOp::Xor => self.bitwise(Bitwise::Exclusive, x, y),
+            BinaryOp::Shl => self.shift(Direction::Left, LOW, x, y),
+            BinaryOp::Lshr => self.shift(Direction::Right, LOW, x, y),
+            BinaryOp::Ashr => self.shift(Direction::Right, top_bit(x), x, y),
+            BinaryOp::Comp => flagged(self.equal(x, y)),
+            BinaryOp::Ult => flagged(self.less(x, y)),
+            BinaryOp::Slt => flagged(self.signed_less(x, y)),
         }
     }
 }

@@ -1,94 +1,84 @@
 // Shifts by a word: a barrel of stages, each of which moves the word by a power of two or leaves it.
-ghost use Rattle.std.specs.Prelude.{◌≡◌, ◌<◌, ◌≤◌, length, slice_index_or};
+ghost use Rattle.std.specs.Prelude.{◌≡◌, ◌≤◌, length};
 ghost use Rattle.circuit.specs.Bits.{moved};
-ghost use Rattle.circuit.specs.Circuits.{choose_n, shift_n};
-ghost use Rattle.circuit.specs.Built.{built, Fits, Wrote};
+ghost use Rattle.circuit.specs.Circuits.{choose_net, shift_net};
+ghost use Rattle.circuit.specs.Built.{Fits, Wrote};
 
-use crate::builder::{Builder, LOW};
+use crate::builder::Builder;
 use clauses::Literal;
 
-// Bit i of x moved by so many places.
-fn moved_bit(left: bool, incoming: Literal, places: usize, x: &[Literal], i: usize) -> Literal
-    requires { i < length x.now }
-    ensures { result ≡ slice_index_or (moved left incoming places x.now) i (record { 0 = 0 }) }
+// Where a word is moved to.
+#[derive(Clone, Copy, PartialEq, Eq, Debug)]
+pub enum Direction {
+    Left,
+    Right,
+}
+
+// x moved by so many places, with the incoming literal where no bit comes from.
+fn moved<const WIDTH: usize>(
+    direction: Direction,
+    incoming: Literal,
+    places: usize,
+    x: &[Literal; WIDTH],
+) -> [Literal; WIDTH]
+    ensures { result ≡ moved direction incoming places x.now }
 {
-    if left {
-        if i < places { incoming } else { x[i - places] }
-    } else if places < x.len() - i {
-        x[i + places]
-    } else {
-        incoming
+    let mut word = [incoming; WIDTH];
+    if places < WIDTH {
+        let from: &[Literal] = x;
+        let to = &mut word[..];
+        let kept = WIDTH - places;
+        match direction {
+            Direction::Left => to[places..].copy_from_slice(&from[..kept]),
+            Direction::Right => to[0..kept].copy_from_slice(&from[places..]),
+        }
     }
+    word
 }
 
 impl Builder<'_> {
     // x moved by so many places if s, else x.
-    fn stage(
+    fn stage<const WIDTH: usize>(
         &mut self,
-        left: bool,
+        direction: Direction,
         incoming: Literal,
         places: usize,
         s: Literal,
-        x: &[Literal],
-        out: &mut [Literal],
-    )
-        requires word { length out.old ≡ length x.now }
-        requires room { Fits self.old (choose_n s (moved left incoming places x.now) x.now (built self.old)).0 }
-        ensures wrote { Wrote self.old self.new (choose_n s (moved left incoming places x.now) x.now (built self.old)).0 }
-        ensures result { out.new ≡ (choose_n s (moved left incoming places x.now) x.now (built self.old)).1 }
+        x: &[Literal; WIDTH],
+    ) -> [Literal; WIDTH]
+        requires { Fits self.old (choose_net s (moved direction incoming places x.now) x.now self.old.net).0 }
+        ensures wrote { Wrote self.old self.new (choose_net s (moved direction incoming places x.now) x.now self.old.net).0 }
+        ensures word { result ≡ (choose_net s (moved direction incoming places x.now) x.now self.old.net).1 }
     {
-        for i in 0..x.len() {
-            let bit = moved_bit(left, incoming, places, x, i);
-            out[i] = self.choice(s, bit, x[i]);
-        }
+        let apart = moved(direction, incoming, places, x);
+        self.choose(s, &apart, x)
     }
 
-    // The stages, with a second word to read from. Once a stage would move everything out, one stage
-    // does for all the bits of the count that are left.
-    fn stages(
+    // x moved to the left or to the right by count places, with the incoming literal where no bit comes
+    // from. Once a stage would move everything out, one stage does for all the bits of the count that
+    // are left.
+    pub fn shift<const WIDTH: usize>(
         &mut self,
-        left: bool,
+        direction: Direction,
         incoming: Literal,
+        x: &[Literal; WIDTH],
         count: &[Literal],
-        before: &mut [Literal],
-        out: &mut [Literal],
-    )
-        requires short { length out.old ≤ 64 }
-        requires word { length before.old ≡ length out.old }
-        requires room { Fits self.old (shift_n left incoming (length out.old) 1 out.old count.now (built self.old)).0 }
-        ensures wrote { Wrote self.old self.new (shift_n left incoming (length out.old) 1 out.old count.now (built self.old)).0 }
-        ensures result { out.new ≡ (shift_n left incoming (length out.old) 1 out.old count.now (built self.old)).1 }
+    ) -> [Literal; WIDTH]
+        requires short { WIDTH ≤ 64 }
+        requires room { Fits self.old (shift_net direction incoming (length x.now) 1 x.now count.now self.old.net).0 }
+        ensures wrote { Wrote self.old self.new (shift_net direction incoming (length x.now) 1 x.now count.now self.old.net).0 }
+        ensures word { result ≡ (shift_net direction incoming (length x.now) 1 x.now count.now self.old.net).1 }
     {
+        let mut word = *x;
         let mut places = 1;
-        for i in 0..count.len() {
-            before.copy_from_slice(out);
-            if places >= out.len() {
+        for (i, bit) in count.iter().enumerate() {
+            if places >= WIDTH {
                 let past = self.any(&count[i..]);
-                self.stage(left, incoming, places, past, before, out);
-                return;
+                return self.stage(direction, incoming, places, past, &word);
             }
-            self.stage(left, incoming, places, count[i], before, out);
+            word = self.stage(direction, incoming, places, *bit, &word);
             places += places;
         }
-    }
-
-    // x moved to the left or to the right by count places, with the incoming literal where no bit comes from.
-    pub fn shift(
-        &mut self,
-        left: bool,
-        incoming: Literal,
-        x: &[Literal],
-        count: &[Literal],
-        out: &mut [Literal],
-    )
-        requires short { length x.now ≤ 64 }
-        requires word { length out.old ≡ length x.now }
-        requires room { Fits self.old (shift_n left incoming (length x.now) 1 x.now count.now (built self.old)).0 }
-        ensures wrote { Wrote self.old self.new (shift_n left incoming (length x.now) 1 x.now count.now (built self.old)).0 }
-        ensures result { out.new ≡ (shift_n left incoming (length x.now) 1 x.now count.now (built self.old)).1 }
-    {
-        let mut buffer = [LOW; 64];
-        out.copy_from_slice(x);
-        self.stages(left, incoming, count, &mut buffer[0..x.len()], out);
+        word
     }
 }

@@ -3,7 +3,7 @@ use Rattle.std.proofs.Common.{◌≡◌, ℕ, ◌+◌, ◌*◌, ◌<◌, Bool, t
 use Rattle.std.proofs.lemmas.Bool.{cases_eq, true≢false}
 use Rattle.words.specs.Words.{xor}
 use Rattle.clauses.specs.declared.literal.Literal.{Literal}
-use Rattle.circuit.specs.Bits.{bit, val, zip_b}
+use Rattle.circuit.specs.Bits.{bit, val, zip_bits}
 use Rattle.circuit.specs.Meaning.{truth_of}
 use Rattle.circuit.proofs.Models.{some}
 use Rattle.circuit.proofs.Numbers.{val_inj}
@@ -24,13 +24,13 @@ pub positive_some : (s : ℕ → Bool) (ls : List Literal) → 0 < val (map (tru
 positive_some s [] h = absurd (omega arith)
 positive_some s (l ∷ ls) h = positive_or (truth_of s l) (some s ls) (val (map (truth_of s) ls)) h (positive_some s ls)
 
-xor_self : (xs : List Bool) → val (zip_b xor xs xs) ≡ 0
+xor_self : (xs : List Bool) → val (zip_bits xor xs xs) ≡ 0
 xor_self [] = refl
 xor_self (true ∷ xs) = omega (arith, xor_self xs)
 xor_self (false ∷ xs) = omega (arith, xor_self xs)
 
-pub bits_differ_values_differ : (xs ys : List Bool) → length xs ≡ length ys → 0 < val (zip_b xor xs ys) → val xs ≡ val ys → ⊥
-bits_differ_values_differ xs ys l h e = omega (arith, subst (λ zs. 0 < val (zip_b xor xs zs)) (sym (val_inj xs ys l e)) h, xor_self xs)
+pub bits_differ_values_differ : (xs ys : List Bool) → length xs ≡ length ys → 0 < val (zip_bits xor xs ys) → val xs ≡ val ys → ⊥
+bits_differ_values_differ xs ys l h e = omega (arith, subst (λ zs. 0 < val (zip_bits xor xs zs)) (sym (val_inj xs ys l e)) h, xor_self xs)
 
 same_bit : (x y : Bool) (v : ℕ) → bit (xor x y) + 2 * v ≡ 0 → (x ≡ y) × (v ≡ 0)
 same_bit true true v e = (refl, omega arith)
@@ -38,14 +38,14 @@ same_bit true false v e = absurd (omega arith)
 same_bit false true v e = absurd (omega arith)
 same_bit false false v e = (refl, omega arith)
 
-no_bit_differs : (xs ys : List Bool) → length xs ≡ length ys → val (zip_b xor xs ys) ≡ 0 → xs ≡ ys
+no_bit_differs : (xs ys : List Bool) → length xs ≡ length ys → val (zip_bits xor xs ys) ≡ 0 → xs ≡ ys
 no_bit_differs [] [] l e = refl
 no_bit_differs [] (y ∷ ys) l e = absurd (omega (arith, l))
 no_bit_differs (x ∷ xs) [] l e = absurd (omega (arith, l))
-no_bit_differs (x ∷ xs) (y ∷ ys) l e = let p = same_bit x y (val (zip_b xor xs ys)) e in ap₂ ◌∷◌ p.0 (no_bit_differs xs ys (omega (arith, l)) p.1)
+no_bit_differs (x ∷ xs) (y ∷ ys) l e = let p = same_bit x y (val (zip_bits xor xs ys)) e in ap₂ ◌∷◌ p.0 (no_bit_differs xs ys (omega (arith, l)) p.1)
 
-pub values_differ_bits_differ : (xs ys : List Bool) → length xs ≡ length ys → (val xs ≡ val ys → ⊥) → 0 < val (zip_b xor xs ys)
-values_differ_bits_differ xs ys l f = elim (cases_eq (val (zip_b xor xs ys)) 0) [ inl e ↦ absurd (f (ap val (no_bit_differs xs ys l e))) | inr g ↦ omega (arith, positive_of (val (zip_b xor xs ys)) g) ]
+pub values_differ_bits_differ : (xs ys : List Bool) → length xs ≡ length ys → (val xs ≡ val ys → ⊥) → 0 < val (zip_bits xor xs ys)
+values_differ_bits_differ xs ys l f = elim (cases_eq (val (zip_bits xor xs ys)) 0) [ inl e ↦ absurd (f (ap val (no_bit_differs xs ys l e))) | inr g ↦ omega (arith, positive_of (val (zip_bits xor xs ys)) g) ]
   where
     positive_of : (v : ℕ) → (v ≡ 0 → ⊥) → 0 < v
     positive_of v g = elim (cases_eq v 0) [ inl e ↦ absurd (g e) | inr h ↦ omega arith ]

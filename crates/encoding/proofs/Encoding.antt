@@ -15,7 +15,7 @@ use Rattle.circuit.specs.Nets.{Net, wires}
 use Rattle.circuit.specs.Meaning.{truth_of, Whole}
 use Rattle.circuit.proofs.Numbers.{length_bits_of, val_bits_of}
 use Rattle.encoding.specs.declared.entry.Entry.{Entry}
-use Rattle.encoding.specs.Encode.{start, table_n, encode, name_bits, Named}
+use Rattle.encoding.specs.Encode.{start, table_net, encode, name_bits, Named}
 use Rattle.encoding.specs.Table.{numbered_all}
 use Rattle.encoding.specs.Values.{WellMade}
 use Rattle.encoding.proofs.AllTerms.{Operands, Have, all_have, all_operands}
@@ -62,7 +62,7 @@ module _ (r : Rule) (ok : ok_rule r ≡ true) where
   table = (numbered_all (terms r) []).0
 
   abbrev pub net : Net × List (List Literal)
-  net = table_n w table [] (start w)
+  net = table_net w table [] (start w)
 
   no_entry : WellMade w []
   no_entry i h = absurd (omega arith)

@@ -1,10 +1,8 @@
 -- The table of a rule's words has the rule's values, and its clauses are met exactly where the rule fails.
-pub mod Keys
 pub mod Tables
 pub mod Commuting
 pub mod Placing
 pub mod TermValues
-pub mod Finding
 pub mod Standing
 pub mod Steps
 pub mod Rules

@@ -11,13 +11,13 @@ use Rattle.terms.specs.Terms.{Term, Rule, terms, load_all, weight}
 use Rattle.terms.proofs.Weights.{few_needs}
 use Rattle.circuit.specs.declared.gates.Bitwise.{Bitwise}
 use Rattle.circuit.specs.declared.gates.Bitwise.TheVariants.{Exclusive}
-use Rattle.circuit.specs.Circuits.{bit_n, bitwise_n}
+use Rattle.circuit.specs.Circuits.{bit_net, bitwise_net}
 use Rattle.circuit.specs.Nets.{Net, said}
 use Rattle.circuit.specs.Sizes.{Grows}
 use Rattle.circuit.proofs.Sizes.{grows_none, said_grows, bitwise_grows, unary_grows, binary_grows, ite_grows, divide_grows}
 use Rattle.encoding.specs.declared.entry.Entry.{Entry}
-use Rattle.encoding.specs.declared.entry.Entry.TheVariants.{Name, Number, Unary, Binary, Ite, Divide, Part}
-use Rattle.encoding.specs.Encode.{start, entry_n, table_n, stated_n, encode}
+use Rattle.encoding.specs.declared.entry.Entry.TheVariants.{Any, Con, Number, Unary, Binary, Ite, Divide, Part}
+use Rattle.encoding.specs.Encode.{start, entry_net, table_net, stated_net, encode}
 use Rattle.encoding.specs.Sizes.{entry_load, table_load}
 use Rattle.encoding.specs.Table.{numbered, numbered_all}
 use Rattle.encoding.specs.Values.{MadeAt, WellMade}
@@ -28,8 +28,9 @@ use Rattle.encoding.proofs.TableNets.{Spelled, operand_size, one_more, all_spell
 use Rattle.encoding.proofs.TableSizes.{terms_load}
 
 module _ (w : ℕ) (two : 2 ≤ w) (few : w ≤ 64) (t : List Entry) (made : WellMade w t) where
-  entry_grows : (n : Net) (ws : List (List Literal)) (i : ℕ) → i ≤ length t → Spelled w t made n ws i → (e : Entry) → MadeAt w t i e → Grows n (entry_n w ws e n).0 (4 * entry_load w e) (entry_load w e)
-  entry_grows n ws i le so (Name k) m = grows_none n _ _
+  entry_grows : (n : Net) (ws : List (List Literal)) (i : ℕ) → i ≤ length t → Spelled w t made n ws i → (e : Entry) → MadeAt w t i e → Grows n (entry_net w ws e n).0 (4 * entry_load w e) (entry_load w e)
+  entry_grows n ws i le so (Any k) m = grows_none n _ _
+  entry_grows n ws i le so (Con k) m = grows_none n _ _
   entry_grows n ws i le so (Number x) m = grows_none n _ _
   entry_grows n ws i le so (Unary o j) m =
       let l = operand_size w t made n ws i le so j m in
@@ -44,36 +45,36 @@ module _ (w : ℕ) (two : 2 ≤ w) (few : w ≤ 64) (t : List Entry) (made : Wel
       record { written = omega (arith, g.written); made = g.made }
   entry_grows n ws i le so (Part k p) m = grows_none n _ _
 
-  table_grows : (front es : List Entry) (ws : List (List Literal)) (n : Net) → front ++ es ≡ t → Spelled w t made n ws (length front) → Grows n (table_n w es ws n).0 (4 * table_load w es) (table_load w es)
+  table_grows : (front es : List Entry) (ws : List (List Literal)) (n : Net) → front ++ es ≡ t → Spelled w t made n ws (length front) → Grows n (table_net w es ws n).0 (4 * table_load w es) (table_load w es)
   table_grows front [] ws n e so = grows_none n _ _
   table_grows front (x ∷ es) ws n e so =
       let lt : length front < length t = subst (λ k. length front < k) (ap length e) (omega (arith, length-append front (x ∷ es))) in
-      let is : get_or t (length front) (Name 0) ≡ x = ap (λ xs. get_or xs (length front) (Name 0)) (sym e) ∙ get_or_at front x es (Name 0) (length front) refl in
-      let r = entry_n w ws x n in
+      let is : get_or t (length front) (Any 0) ≡ x = ap (λ xs. get_or xs (length front) (Any 0)) (sym e) ∙ get_or_at front x es (Any 0) (length front) refl in
+      let r = entry_net w ws x n in
       let g = entry_grows n ws (length front) (omega arith) so x (subst (MadeAt w t (length front)) is (made (length front) lt)) in
       let h = table_grows (front ++ (x ∷ [])) es (ws ++ (r.1 ∷ [])) r.0 (append_assoc front (x ∷ []) es ∙ e)
       (subst (Spelled w t made r.0 (ws ++ (r.1 ∷ []))) (sym (length-append front (x ∷ []))) (one_more w t made n ws (length front) (omega arith) so lt x is)) in
       record { written = omega (arith, g.written, h.written); made = omega (arith, g.made, h.made) }
 
-  bitwise_long : (o : Bitwise) (xs ys : List Literal) (n : Net) → length (bitwise_n o xs ys n).1 ≤ length xs
+  bitwise_long : (o : Bitwise) (xs ys : List Literal) (n : Net) → length (bitwise_net o xs ys n).1 ≤ length xs
   bitwise_long o [] ys n = omega arith
   bitwise_long o (x ∷ xs) [] n = omega arith
-  bitwise_long o (x ∷ xs) (y ∷ ys) n = omega (arith, bitwise_long o xs ys (bit_n o x y n).0)
+  bitwise_long o (x ∷ xs) (y ∷ ys) n = omega (arith, bitwise_long o xs ys (bit_net o x y n).0)
 
   -- the words at these places are w bits long
   abbrev Long : List (List Literal) → List ℕ → Type 0
   Long ws [] = Unit {0}
   Long ws (i ∷ is) = (length (get_or ws i []) ≡ w) × Long ws is
 
-  operands_long : (is : List ℕ) → Operands t is → Long (table_n w t [] (start w)).1 is
+  operands_long : (is : List ℕ) → Operands t is → Long (table_net w t [] (start w)).1 is
   operands_long [] o = tt
-  operands_long (i ∷ is) o = (operand_size w t made (table_n w t [] (start w)).0 (table_n w t [] (start w)).1 (length t) (omega arith) (all_spelled w t made) i o.0, operands_long is o.1)
+  operands_long (i ∷ is) o = (operand_size w t made (table_net w t [] (start w)).0 (table_net w t [] (start w)).1 (length t) (omega arith) (all_spelled w t made) i o.0, operands_long is o.1)
 
-  stated_grows : (ws : List (List Literal)) (is : List ℕ) (n : Net) → Long ws is → Grows n (stated_n ws is n) (length is * (w + 1) + 17 * w) w
+  stated_grows : (ws : List (List Literal)) (is : List ℕ) (n : Net) → Long ws is → Grows n (stated_net ws is n) (length is * (w + 1) + 17 * w) w
   stated_grows ws [] n l = grows_none n _ _
   stated_grows ws (i ∷ []) n l = grows_none n _ _
   stated_grows ws (i ∷ j ∷ []) n l =
-      let d = bitwise_n Exclusive (get_or ws i []) (get_or ws j []) n in
+      let d = bitwise_net Exclusive (get_or ws i []) (get_or ws j []) n in
       let g = bitwise_grows Exclusive (get_or ws i []) (get_or ws j []) n in
       let h = said_grows d.1 d.0 in
       record { written = omega (arith, g.written, h.written, bitwise_long Exclusive (get_or ws i []) (get_or ws j []) n, l.0); made = omega (arith, g.made, h.made, l.0) }
@@ -100,7 +101,7 @@ module _ (r : Rule) (ok : ok_rule r ≡ true) where
   load_terms w [] fs = omega arith
   load_terms w (e ∷ es) fs = omega (arith, load_terms w es fs)
 
-  places_long : Long (bits r.width) w_two (bits_le r.width) (numbered_all (terms r) []).0 (table_made r ok) (table_n (bits r.width) (numbered_all (terms r) []).0 [] (start (bits r.width))).1 (numbered_all (terms r) []).1
+  places_long : Long (bits r.width) w_two (bits_le r.width) (numbered_all (terms r) []).0 (table_made r ok) (table_net (bits r.width) (numbered_all (terms r) []).0 [] (start (bits r.width))).1 (numbered_all (terms r) []).1
   places_long = operands_long (bits r.width) w_two (bits_le r.width) (numbered_all (terms r) []).0 (table_made r ok) (numbered_all (terms r) []).1 (places_operands r ok)
 
   pub encode_grows : Grows (start (bits r.width)) (encode r) (4 * weight r + 1098) (weight r + 64)
@@ -108,7 +109,7 @@ module _ (r : Rule) (ok : ok_rule r ≡ true) where
       let w = bits r.width in
       let made = table_made r ok in
       let t = numbered_all (terms r) [] in
-      let b = table_n w t.0 [] (start w) in
+      let b = table_net w t.0 [] (start w) in
       let so = all_spelled w t.0 made in
       let g = table_grows w w_two (bits_le r.width) t.0 made [] t.0 [] (start w) refl (record { defines = defines_none (start w); size = refl; spells = λ j h. absurd (omega arith) }) in
       let h = stated_grows w w_two (bits_le r.width) t.0 made b.1 t.1 b.0 places_long in

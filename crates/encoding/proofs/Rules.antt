@@ -1,6 +1,6 @@
 -- The terms of a rule are numbered one after the other.
-use Rattle.std.proofs.Common.{◌≡◌, ℕ, ◌+◌, ◌*◌, ◌<◌, ◌≤◌, true, List, [], ◌∷◌, ◌++◌, length, get_or, take, drop, set, sym, refl, ap, ◌∙◌, arith}
-use Rattle.std.proofs.lemmas.List.{append_assoc, append-nil, length-append, length-set, drop_more, drop_all, take_more_set}
+use Rattle.std.proofs.Common.{◌≡◌, ℕ, ◌+◌, ◌*◌, ◌<◌, ◌≤◌, true, List, [], ◌∷◌, ◌++◌, length, get_or, drop, sym, refl, ap, ◌∙◌, arith}
+use Rattle.std.proofs.lemmas.List.{append_assoc, append-nil, length-append, drop_more, drop_all}
 use Rattle.terms.specs.declared.rule.RuleNodes.{RuleNodes}
 use Rattle.terms.specs.Limits.{ok_rule}
 use Rattle.terms.specs.Represents.{Represents}
@@ -33,16 +33,15 @@ rule_entries r ok =
     omega (arith, few_all all, operations_append r.needs (r.from ∷ r.to ∷ []), length-append r.needs (r.from ∷ r.to ∷ []), few_needs r ok, few_operations r ok)
 
 -- the first k terms of the rule are numbered: what is left gives the rest, and has room
-pub record NumberedSoFar (x : RuleNodes) (k : ℕ) (es : List Entry) (n : ℕ) (places : List ℕ) : Type 0 where
-  pub rest : (r : Rule) → Represents x r → numbered_all (terms r) [] ≡ ((numbered_all (drop k (terms r)) (take n es)).0, take k places ++ (numbered_all (drop k (terms r)) (take n es)).1)
-  pub room : (r : Rule) → Represents x r → ok_rule r ≡ true → n + entries_all (drop k (terms r)) ≤ 134
-  pub size : length places ≡ 6
+pub record NumberedSoFar (x : RuleNodes) (k : ℕ) (t : List Entry) (places : List ℕ) : Type 0 where
+  pub rest : (r : Rule) → Represents x r → numbered_all (terms r) [] ≡ ((numbered_all (drop k (terms r)) t).0, places ++ (numbered_all (drop k (terms r)) t).1)
+  pub room : (r : Rule) → Represents x r → ok_rule r ≡ true → length t + entries_all (drop k (terms r)) ≤ 134
 
 length_terms : (x : RuleNodes) (r : Rule) → Represents x r → length (terms r) ≡ length x.roots.items
 length_terms x r rep = sym (rooted_count x.nodes.items x.roots.items (terms r) rep.rooted)
 
-pub numbered_none : (x : RuleNodes) (es : List Entry) (places : List ℕ) → length places ≡ 6 → NumberedSoFar x 0 es 0 places
-numbered_none x es places six = record { size = six; rest = λ r rep. refl; room = λ r rep ok. omega (arith, rule_entries r ok) }
+pub numbered_none : (x : RuleNodes) → NumberedSoFar x 0 [] []
+numbered_none x = record { rest = λ r rep. refl; room = λ r rep ok. omega (arith, rule_entries r ok) }
 
 module _ (x : RuleNodes) (k : ℕ) (lt : k < length x.roots.items) where
   -- the term at root k
@@ -52,25 +51,24 @@ module _ (x : RuleNodes) (k : ℕ) (lt : k < length x.roots.items) where
   cut : (r : Rule) → Represents x r → drop k (terms r) ≡ get_or (terms r) k (any 0) ∷ drop (k + 1) (terms r)
   cut r rep = drop_more (terms r) k (any 0) (omega (arith, length_terms x r rep))
 
-  pub root_room : (es : List Entry) (n : ℕ) (places : List ℕ) (r : Rule) → Represents x r → ok_rule r ≡ true → NumberedSoFar x k es n places → n + entries_in (get_or (terms r) k (any 0)) ≤ 134
-  root_room es n places r rep ok so = omega (arith, so.room r rep ok, ap entries_all (cut r rep))
+  pub root_room : (t : List Entry) (places : List ℕ) (r : Rule) → Represents x r → ok_rule r ≡ true → NumberedSoFar x k t places → length t + entries_in (get_or (terms r) k (any 0)) ≤ 134
+  root_room t places r rep ok so = omega (arith, so.room r rep ok, ap entries_all (cut r rep))
 
-  pub numbered_more : (es es' : List Entry) (n n' p : ℕ) (places : List ℕ) → k < 6 → NumberedSoFar x k es n places → Numbers x.nodes.items (get_or x.roots.items k 0) (take n es) (take n' es') n n' p → NumberedSoFar x (k + 1) es' n' (set places k p)
-  numbered_more es es' n n' p places few so now = record {
-    size = length-set places k p ∙ so.size;
+  pub numbered_more : (t t' : List Entry) (p : ℕ) (places : List ℕ) → NumberedSoFar x k t places → Numbers x.nodes.items (get_or x.roots.items k 0) t t' p → NumberedSoFar x (k + 1) t' (places ++ (p ∷ []))
+  numbered_more t t' p places so now = record {
     rest = λ r rep.
         let e = get_or (terms r) k (any 0) in
         let s = (root_at r rep).1 in
         so.rest r rep
-        ∙ (ap (λ ts. ((numbered_all ts (take n es)).0, take k places ++ (numbered_all ts (take n es)).1)) (cut r rep)
-        ∙ ((λ i. let t = sym (now.table e s) i in ((numbered_all (drop (k + 1) (terms r)) t).0, take k places ++ (sym (now.place e s) i ∷ (numbered_all (drop (k + 1) (terms r)) t).1)))
-        ∙ ap (λ ps. ((numbered_all (drop (k + 1) (terms r)) (take n' es')).0, ps)) (sym (append_assoc (take k places) (p ∷ []) _) ∙ ap (λ ps. ps ++ (numbered_all (drop (k + 1) (terms r)) (take n' es')).1) (sym (take_more_set places k p (omega (arith, so.size)))))));
+        ∙ (ap (λ ts. ((numbered_all ts t).0, places ++ (numbered_all ts t).1)) (cut r rep)
+        ∙ ((λ i. let u = sym (now.table e s) i in ((numbered_all (drop (k + 1) (terms r)) u).0, places ++ (sym (now.place e s) i ∷ (numbered_all (drop (k + 1) (terms r)) u).1)))
+        ∙ ap (λ ps. ((numbered_all (drop (k + 1) (terms r)) t').0, ps)) (sym (append_assoc places (p ∷ []) _))));
     room = λ r rep ok. omega (arith, so.room r rep ok, ap entries_all (cut r rep), now.more (get_or (terms r) k (any 0)) (root_at r rep).1);
   }
 
 -- all terms
-pub numbered_all_lem : (x : RuleNodes) (es : List Entry) (n : ℕ) (places : List ℕ) (r : Rule) → Represents x r → NumberedSoFar x (length x.roots.items) es n places → numbered_all (terms r) [] ≡ (take n es, take (length x.roots.items) places)
-numbered_all_lem x es n places r rep so =
+pub numbered_all_lem : (x : RuleNodes) (k : ℕ) (t : List Entry) (places : List ℕ) (r : Rule) → length x.roots.items ≤ k → Represents x r → NumberedSoFar x k t places → numbered_all (terms r) [] ≡ (t, places)
+numbered_all_lem x k t places r h rep so =
     so.rest r rep
-    ∙ (ap (λ ts. ((numbered_all ts (take n es)).0, take (length x.roots.items) places ++ (numbered_all ts (take n es)).1)) (drop_all (length x.roots.items) (terms r) (omega (arith, length_terms x r rep)))
-    ∙ ap (λ ps. (take n es, ps)) (append-nil (take (length x.roots.items) places)))
+    ∙ (ap (λ ts. ((numbered_all ts t).0, places ++ (numbered_all ts t).1)) (drop_all k (terms r) (omega (arith, length_terms x r rep)))
+    ∙ ap (λ ps. (t, ps)) (append-nil places))

@@ -7,14 +7,14 @@ use Rattle.clauses.specs.Flat.{Model}
 use Rattle.terms.specs.Terms.{Term, eval, Met}
 use Rattle.circuit.specs.Bits.{val}
 use Rattle.circuit.specs.declared.gates.Bitwise.TheVariants.{Exclusive}
-use Rattle.circuit.specs.Circuits.{bitwise_n}
+use Rattle.circuit.specs.Circuits.{bitwise_net}
 use Rattle.circuit.specs.Nets.{Net, said, wires}
 use Rattle.circuit.specs.Meaning.{truth_of, Agree, WordBelow, Whole, Spells}
 use Rattle.circuit.proofs.Models.{some, truth_agree, said_parts, said_both, said_well, said_below}
 use Rattle.circuit.proofs.NewWords.{wires_below}
 use Rattle.circuit.proofs.WordMeaning.{bitwise_makes}
 use Rattle.encoding.specs.declared.entry.Entry.{Entry}
-use Rattle.encoding.specs.Encode.{stated_n, name_bits, Named}
+use Rattle.encoding.specs.Encode.{stated_net, name_bits, Named}
 use Rattle.encoding.specs.Values.{Operand, WellMade}
 use Rattle.encoding.proofs.AllTerms.{AllHave}
 use Rattle.encoding.proofs.Differing.{some_positive, positive_some, bits_differ_values_differ, values_differ_bits_differ}
@@ -61,7 +61,7 @@ module _ (w : ℕ) (pos : 0 < w) (t : List Entry) (made : WellMade w t) (ws : Li
   abbrev pub AllSpelled : Net → Type 0
   AllSpelled n = (j : ℕ) → j < length t → Spells n (get_or ws j []) (bits_at w t made j)
 
-  stated_need : (i : ℕ) (is : List ℕ) (n : Net) → 2 ≤ length is → stated_n ws (i ∷ is) n ≡ stated_n ws is (said (get_or ws i []) n)
+  stated_need : (i : ℕ) (is : List ℕ) (n : Net) → 2 ≤ length is → stated_net ws (i ∷ is) n ≡ stated_net ws is (said (get_or ws i []) n)
   stated_need i [] n h = absurd (omega arith)
   stated_need i (j ∷ []) n h = absurd (omega arith)
   stated_need i (j ∷ k ∷ is) n h = refl
@@ -88,12 +88,12 @@ module _ (w : ℕ) (pos : 0 < w) (t : List Entry) (made : WellMade w t) (ws : Li
     sides_long s i j oi oj = operand_long w (name_bits w s) (length_names w s) t made i oi ∙ sym (operand_long w (name_bits w s) (length_names w s) t made j oj)
 
     -- what meets the clauses makes the rule fail
-    pub stated_fails : (s : ℕ → Bool) (m : Named w a c s) (is : List ℕ) (needs : List Term) (from to : Term) (n : Net) → Valued s m is (needs ++ (from ∷ to ∷ [])) → Whole n → AllSpelled n → Model s (stated_n ws is n).out → Model s n.out × Met w a c needs × (eval w a c from ≡ eval w a c to → ⊥)
+    pub stated_fails : (s : ℕ → Bool) (m : Named w a c s) (is : List ℕ) (needs : List Term) (from to : Term) (n : Net) → Valued s m is (needs ++ (from ∷ to ∷ [])) → Whole n → AllSpelled n → Model s (stated_net ws is n).out → Model s n.out × Met w a c needs × (eval w a c from ≡ eval w a c to → ⊥)
     stated_fails s m [] [] from to n v whole sp h = absurd v
     stated_fails s m (i ∷ []) [] from to n v whole sp h = absurd v.2
     stated_fails s m (i ∷ j ∷ k ∷ is) [] from to n v whole sp h = absurd v.2.2
     stated_fails s m (i ∷ j ∷ []) [] from to n v whole sp h =
-        let d = bitwise_n Exclusive (get_or ws i []) (get_or ws j []) n in
+        let d = bitwise_net Exclusive (get_or ws i []) (get_or ws j []) n in
         let mk = bitwise_makes Exclusive whole (sp i v.0.0) (sp j v.2.0.0) in
         let k = said_parts d.0.next s d.1 d.0 (mk.defines.whole whole).ends mk.spells.below h in
         let differ = subst (λ bs. 0 < val bs) (mk.spells.means s k.0) (some_positive s d.1 k.1) in
@@ -108,12 +108,12 @@ module _ (w : ℕ) (pos : 0 < w) (t : List Entry) (made : WellMade w t) (ws : Li
         (k.0, ((λ z. omega (arith, some_positive s c k.1, word_value n s sp k.0 i _ v.0 v.1, z)), r.1), r.2)
 
     -- where the rule fails, the clauses are met
-    pub fails_stated : (s : ℕ → Bool) (m : Named w a c s) (is : List ℕ) (needs : List Term) (from to : Term) (n : Net) → ((x : ℕ → Bool) (k : Named w a c x) → Valued x k is (needs ++ (from ∷ to ∷ []))) → Whole n → 1 + 32 * w ≤ n.next → AllSpelled n → Model s n.out → Met w a c needs → (eval w a c from ≡ eval w a c to → ⊥) → (x : ℕ → Bool) × Model x (stated_n ws is n).out
+    pub fails_stated : (s : ℕ → Bool) (m : Named w a c s) (is : List ℕ) (needs : List Term) (from to : Term) (n : Net) → ((x : ℕ → Bool) (k : Named w a c x) → Valued x k is (needs ++ (from ∷ to ∷ []))) → Whole n → 1 + 32 * w ≤ n.next → AllSpelled n → Model s n.out → Met w a c needs → (eval w a c from ≡ eval w a c to → ⊥) → (x : ℕ → Bool) × Model x (stated_net ws is n).out
     fails_stated s m [] [] from to n v whole far sp h met f = absurd (v s m)
     fails_stated s m (i ∷ []) [] from to n v whole far sp h met f = absurd (v s m).2
     fails_stated s m (i ∷ j ∷ k ∷ is) [] from to n v whole far sp h met f = absurd (v s m).2.2
     fails_stated s m (i ∷ j ∷ []) [] from to n v whole far sp h met f =
-        let d = bitwise_n Exclusive (get_or ws i []) (get_or ws j []) n in
+        let d = bitwise_net Exclusive (get_or ws i []) (get_or ws j []) n in
         let o = v s m in
         let mk = bitwise_makes Exclusive whole (sp i o.0.0) (sp j o.2.0.0) in
         let e = mk.defines.extends whole s h in

@@ -1,5 +1,5 @@
 -- One step of numbering: a term after its parts.
-use Rattle.std.proofs.Common.{◌≡◌, ℕ, ◌+◌, ◌≤◌, List, get_or, sym, ap, ◌∙◌, arith}
+use Rattle.std.proofs.Common.{◌≡◌, ℕ, ◌+◌, ◌≤◌, List, length, get_or, sym, ap, ◌∙◌, arith}
 use Rattle.words.specs.declared.UnaryOp.{UnaryOp}
 use Rattle.words.specs.declared.BinaryOp.{BinaryOp}
 use Rattle.terms.specs.declared.node.Node.{Node}
@@ -11,9 +11,9 @@ use Rattle.encoding.specs.declared.entry.Entry.TheVariants.{Unary as UnaryEntry,
 use Rattle.encoding.specs.Table.{place, operated, numbered, entries_in, Numbers}
 use Rattle.encoding.proofs.Standing.{stands_unary, stands_binary, stands_ite}
 
-module _ (ns : List Node) (i : ℕ) (old new : List Entry) (n n' r : ℕ) where
+module _ (ns : List Node) (i : ℕ) (old new : List Entry) (r : ℕ) where
   -- a node that stands for one term
-  pub numbers_one : (t : Term) → ((e : Term) → Stands ns i e → e ≡ t) → new ≡ (numbered t old).0 → r ≡ (numbered t old).1 → n' ≤ n + entries_in t → Numbers ns i old new n n' r
+  pub numbers_one : (t : Term) → ((e : Term) → Stands ns i e → e ≡ t) → new ≡ (numbered t old).0 → r ≡ (numbered t old).1 → length new ≤ length old + entries_in t → Numbers ns i old new r
   numbers_one t is p q m = record {
     table = λ e s. p ∙ sym (ap (λ f. (numbered f old).0) (is e s));
     place = λ e s. q ∙ sym (ap (λ f. (numbered f old).1) (is e s));
@@ -21,8 +21,8 @@ module _ (ns : List Node) (i : ℕ) (old new : List Entry) (n n' r : ℕ) where
   }
 
 -- an operation on one part: mid is the table with the part, at place a
-module _ (ns : List Node) (i j : ℕ) (o : UnaryOp) (is : get_or ns i (Any 0) ≡ Unary o j) (old mid new : List Entry) (n m n' a r : ℕ) (part : Numbers ns j old mid n m a) where
-  pub numbers_unary : new ≡ (place (UnaryEntry o a) mid).0 → r ≡ (place (UnaryEntry o a) mid).1 → n' ≤ m + 1 → Numbers ns i old new n n' r
+module _ (ns : List Node) (i j : ℕ) (o : UnaryOp) (is : get_or ns i (Any 0) ≡ Unary o j) (old mid new : List Entry) (a r : ℕ) (part : Numbers ns j old mid a) where
+  pub numbers_unary : new ≡ (place (UnaryEntry o a) mid).0 → r ≡ (place (UnaryEntry o a) mid).1 → length new ≤ length mid + 1 → Numbers ns i old new r
   numbers_unary p q l = record {
     table = λ e s. let u = stands_unary ns i o j e is s in p ∙ (ap (λ f. f.0) (now_is e s) ∙ sym (ap (λ f. (numbered f old).0) u.1));
     place = λ e s. let u = stands_unary ns i o j e is s in q ∙ (ap (λ f. f.1) (now_is e s) ∙ sym (ap (λ f. (numbered f old).1) u.1));
@@ -33,8 +33,8 @@ module _ (ns : List Node) (i j : ℕ) (o : UnaryOp) (is : get_or ns i (Any 0) �
       now_is e s = let u = stands_unary ns i o j e is s in (λ k. place (UnaryEntry o (part.place u.0 u.3 k)) (part.table u.0 u.3 k))
 
 -- an operation on two
-module _ (ns : List Node) (i j h : ℕ) (o : BinaryOp) (is : get_or ns i (Any 0) ≡ Binary o j h) (old mid two new : List Entry) (n m l n' a b r : ℕ) (left : Numbers ns j old mid n m a) (right : Numbers ns h mid two m l b) where
-  pub numbers_binary : new ≡ (operated o a b two).0 → r ≡ (operated o a b two).1 → n' ≤ l + 2 → Numbers ns i old new n n' r
+module _ (ns : List Node) (i j h : ℕ) (o : BinaryOp) (is : get_or ns i (Any 0) ≡ Binary o j h) (old mid two new : List Entry) (a b r : ℕ) (left : Numbers ns j old mid a) (right : Numbers ns h mid two b) where
+  pub numbers_binary : new ≡ (operated o a b two).0 → r ≡ (operated o a b two).1 → length new ≤ length two + 2 → Numbers ns i old new r
   numbers_binary p q f = record {
     table = λ e s. let u = stands_binary ns i o j h e is s in p ∙ (ap (λ f. f.0) (now_is e s) ∙ sym (ap (λ f. (numbered f old).0) u.2));
     place = λ e s. let u = stands_binary ns i o j h e is s in q ∙ (ap (λ f. f.1) (now_is e s) ∙ sym (ap (λ f. (numbered f old).1) u.2));
@@ -51,8 +51,8 @@ module _ (ns : List Node) (i j h : ℕ) (o : BinaryOp) (is : get_or ns i (Any 0)
           (λ k. operated o (left.place u.0 u.5 k) (g k).1 (g k).0)
 
 -- a choice
-module _ (ns : List Node) (i g j h : ℕ) (is : get_or ns i (Any 0) ≡ Ite g j h) (old one two three new : List Entry) (n n1 n2 n3 n' a b d r : ℕ) (test : Numbers ns g old one n n1 a) (then : Numbers ns j one two n1 n2 b) (other : Numbers ns h two three n2 n3 d) where
-  pub numbers_ite : new ≡ (place (IteEntry a b d) three).0 → r ≡ (place (IteEntry a b d) three).1 → n' ≤ n3 + 1 → Numbers ns i old new n n' r
+module _ (ns : List Node) (i g j h : ℕ) (is : get_or ns i (Any 0) ≡ Ite g j h) (old one two three new : List Entry) (a b d r : ℕ) (test : Numbers ns g old one a) (then : Numbers ns j one two b) (other : Numbers ns h two three d) where
+  pub numbers_ite : new ≡ (place (IteEntry a b d) three).0 → r ≡ (place (IteEntry a b d) three).1 → length new ≤ length three + 1 → Numbers ns i old new r
   numbers_ite p q f = record {
     table = λ e s. let u = stands_ite ns i g j h e is s in p ∙ (ap (λ f. f.0) (now_is e s) ∙ sym (ap (λ f. (numbered f old).0) u.3));
     place = λ e s. let u = stands_ite ns i g j h e is s in q ∙ (ap (λ f. f.1) (now_is e s) ∙ sym (ap (λ f. (numbered f old).1) u.3));

@@ -12,9 +12,9 @@ use Rattle.circuit.proofs.WordMeaning.{ite_makes}
 use Rattle.circuit.proofs.OperationMeaning.{length_spelled, unary_makes, binary_makes}
 use Rattle.circuit.proofs.DivisionMeaning.{divide_makes}
 use Rattle.encoding.specs.declared.entry.Entry.{Entry}
-use Rattle.encoding.specs.declared.entry.Entry.TheVariants.{Name, Number, Unary, Binary, Ite, Divide, Part}
-use Rattle.encoding.specs.Encode.{constant, start, entry_n, table_n, name_bits}
-use Rattle.encoding.specs.Values.{entry_b, Operand, MadeAt, WellMade}
+use Rattle.encoding.specs.declared.entry.Entry.TheVariants.{Any, Con, Number, Unary, Binary, Ite, Divide, Part}
+use Rattle.encoding.specs.Encode.{constant, start, entry_net, table_net, name_bits}
+use Rattle.encoding.specs.Values.{order, entry_bits, Operand, MadeAt, WellMade}
 use Rattle.encoding.proofs.Tables.{words, word_is_entry, operand_long}
 
 -- parts of words
@@ -83,20 +83,24 @@ module _ (w : ℕ) (t : List Entry) (made : WellMade w t) where
         let s = x.0 in
         sym (length_spelled (so.spells j o.0) s x.2) ∙ operand_long w (name_bits w s) (length_names w s) t made j (omega (arith, o.0), o.1)
 
-    entry_makes : (e : Entry) → MadeAt w t i e → MakesWord n (entry_n w ws e n) (λ s. entry_b w (name_bits w s) (words w (name_bits w s) t) e)
-    entry_makes (Name k) m =
+    names_make : (k : ℕ) → k < 32 → MakesWord n (n, wires w (1 + k * w)) (λ s. name_bits w s k)
+    names_make k m =
         let most : (k + 1) * w ≤ 32 * w = mul-le-mul_right w (omega arith) in
         makes_word_none (spells_itself (wires_below w (1 + k * w) n.next (omega (arith, so.defines.grows, most, add-mul k 1 w))))
+
+    entry_makes : (e : Entry) → MadeAt w t i e → MakesWord n (entry_net w ws e n) (λ s. entry_bits w (name_bits w s) (words w (name_bits w s) t) e)
+    entry_makes (Any k) m = names_make k (omega arith)
+    entry_makes (Con k) m = names_make (16 + k) (omega arith)
     entry_makes (Number x) m = makes_word_none (spells_constant whole (bits_of w x))
     entry_makes (Unary o j) m = unary_makes o whole (so.spells j m.0)
     entry_makes (Binary o j k) m = binary_makes whole (so.spells j m.1.0) (so.spells k m.2.0) o
     entry_makes (Ite h j k) m = ite_makes whole (so.spells h m.0.0) (so.spells j m.1.0) (so.spells k m.2.0)
     entry_makes (Divide j k) m = divide_makes whole (operand_size j m.0) (operand_size k m.1) (so.spells j m.0.0) (so.spells k m.1.0)
-    entry_makes (Part k p) m = makes_word_none (spells_part w (p * w) (so.spells k m.0))
+    entry_makes (Part k p) m = makes_word_none (spells_part w (order p * w) (so.spells k m.0))
 
-    pub one_more : i < length t → (e : Entry) → get_or t i (Name 0) ≡ e → Spelled (entry_n w ws e n).0 (ws ++ ((entry_n w ws e n).1 ∷ [])) (i + 1)
+    pub one_more : i < length t → (e : Entry) → get_or t i (Any 0) ≡ e → Spelled (entry_net w ws e n).0 (ws ++ ((entry_net w ws e n).1 ∷ [])) (i + 1)
     one_more lt e is =
-        let r = entry_n w ws e n in
+        let r = entry_net w ws e n in
         let mk = entry_makes e (subst (MadeAt w t i) is (made i lt)) in
         record {
           defines = defines_then so.defines mk.defines;
@@ -107,18 +111,18 @@ module _ (w : ℕ) (t : List Entry) (made : WellMade w t) where
                 let q : i ≡ j = omega arith in
                 subst (λ k. Spells r.0 (get_or (ws ++ (r.1 ∷ [])) k []) (bits_at k)) q
                 (subst (λ ls. Spells r.0 ls (bits_at i)) (sym (get_or_push ws r.1 [] i so.size))
-                (spells_as (λ s h. ap (entry_b w (name_bits w s) (words w (name_bits w s) t)) (sym is) ∙ sym (word_is_entry w (name_bits w s) t made i lt)) mk.spells))
+                (spells_as (λ s h. ap (entry_bits w (name_bits w s) (words w (name_bits w s) t)) (sym is) ∙ sym (word_is_entry w (name_bits w s) t made i lt)) mk.spells))
           ];
         }
 
-  pub table_spelled : (front es : List Entry) (ws : List (List Literal)) (n : Net) → front ++ es ≡ t → Spelled n ws (length front) → Spelled (table_n w es ws n).0 (table_n w es ws n).1 (length t)
+  pub table_spelled : (front es : List Entry) (ws : List (List Literal)) (n : Net) → front ++ es ≡ t → Spelled n ws (length front) → Spelled (table_net w es ws n).0 (table_net w es ws n).1 (length t)
   table_spelled front [] ws n e so = subst (Spelled n ws) (ap length (sym (append-nil front) ∙ e)) so
   table_spelled front (x ∷ es) ws n e so =
       let lt : length front < length t = subst (λ k. length front < k) (ap length e) (omega (arith, length-append front (x ∷ es))) in
-      let is : get_or t (length front) (Name 0) ≡ x = ap (λ xs. get_or xs (length front) (Name 0)) (sym e) ∙ get_or_at front x es (Name 0) (length front) refl in
-      let r = entry_n w ws x n in
+      let is : get_or t (length front) (Any 0) ≡ x = ap (λ xs. get_or xs (length front) (Any 0)) (sym e) ∙ get_or_at front x es (Any 0) (length front) refl in
+      let r = entry_net w ws x n in
       table_spelled (front ++ (x ∷ [])) es (ws ++ (r.1 ∷ [])) r.0 (append_assoc front (x ∷ []) es ∙ e)
       (subst (Spelled r.0 (ws ++ (r.1 ∷ []))) (sym (length-append front (x ∷ []))) (one_more n ws (length front) (omega arith) so lt x is))
 
-  pub all_spelled : Spelled (table_n w t [] (start w)).0 (table_n w t [] (start w)).1 (length t)
+  pub all_spelled : Spelled (table_net w t [] (start w)).0 (table_net w t [] (start w)).1 (length t)
   all_spelled = table_spelled [] t [] (start w) refl (record { defines = defines_none (start w); size = refl; spells = λ j h. absurd (omega arith) })

@@ -9,14 +9,16 @@ use Rattle.words.specs.declared.BinaryOp.TheVariants.{Add, Sub, Mul, Udiv, Urem,
 use Rattle.words.proofs.Laws.{do2_word}
 use Rattle.terms.specs.Terms.{Term, any, con, lit, unary, binary, ite, eval}
 use Rattle.terms.specs.Limits.{ok_term}
-use Rattle.circuit.specs.Bits.{val, mul_b, binary_b, divides}
+use Rattle.circuit.specs.Bits.{val, mul_bits, binary_bits, divides}
 use Rattle.circuit.proofs.Numbers.{val_lt, length_bits_of, val_bits_of}
 use Rattle.circuit.proofs.Products.{length_mul}
 use Rattle.circuit.proofs.OperationValues.{unary_right, binary_right, ite_right}
+use Rattle.encoding.specs.declared.entry.DivisionWord.{DivisionWord}
+use Rattle.encoding.specs.declared.entry.DivisionWord.TheVariants.{Quotient, Remainder, Product}
 use Rattle.encoding.specs.declared.entry.Entry.{Entry}
-use Rattle.encoding.specs.declared.entry.Entry.TheVariants.{Name, Number, Unary, Binary, Ite, Divide, Part}
+use Rattle.encoding.specs.declared.entry.Entry.TheVariants.{Any, Con, Number, Unary, Binary, Ite, Divide, Part}
 use Rattle.encoding.specs.Table.{place, sorted, by_divider, by_quotient, product, divided, operated, numbered}
-use Rattle.encoding.specs.Values.{quotient_b, remainder_b, divide_b, entry_b, is_division, Operand, MadeAt, WellMade}
+use Rattle.encoding.specs.Values.{order, quotient_bits, remainder_bits, divide_bits, entry_bits, is_division, Operand, MadeAt, WellMade}
 use Rattle.encoding.proofs.Commuting.{Commutes, add_commutes, mul_commutes, and_commutes, or_commutes, xor_commutes, comp_commutes}
 use Rattle.encoding.proofs.Placing.{placed, operand_later}
 use Rattle.encoding.proofs.Tables.{words, words_keep, word_is_entry, operand_long}
@@ -34,7 +36,7 @@ module _ (w : ℕ) (pos : 0 < w) (env : ℕ → List Bool) (long : (k : ℕ) →
   at t i = get_or (words w env t) i []
 
   -- an entry that is placed, and no division whole
-  has_entry : (t : List Entry) (e : Entry) (x : ℕ) → WellMade w t → MadeAt w t (length t) e → is_division e ≡ false → val (entry_b w env (words w env t) e) ≡ x → Has t (place e t) x
+  has_entry : (t : List Entry) (e : Entry) (x : ℕ) → WellMade w t → MadeAt w t (length t) e → is_division e ≡ false → val (entry_bits w env (words w env t) e) ≡ x → Has t (place e t) x
   has_entry t e x made m f v =
       let p = placed w env t e made m in
       record { rest = p.rest; extends = p.extends; made = p.made; operand = (p.inside, ap is_division p.entry ∙ f); is = ap val p.word ∙ v }
@@ -50,7 +52,7 @@ module _ (w : ℕ) (pos : 0 < w) (env : ℕ → List Bool) (long : (k : ℕ) →
     same_long : length (at t i) ≡ length (at t j)
     same_long = operand_long w env long t made i oi ∙ sym (operand_long w env long t made j oj)
 
-    binary_value : (o : BinaryOp) → divides o ≡ false → val (binary_b o (at t i) (at t j)) ≡ do2 w o (val (at t i)) (val (at t j))
+    binary_value : (o : BinaryOp) → divides o ≡ false → val (binary_bits o (at t i) (at t j)) ≡ do2 w o (val (at t i)) (val (at t j))
     binary_value o d =
         let l = operand_long w env long t made i oi in
         binary_right o (at t i) (at t j) same_long (omega (arith, l, pos)) d ∙ ap (λ n. do2 n o (val (at t i)) (val (at t j))) l
@@ -83,43 +85,44 @@ module _ (w : ℕ) (pos : 0 < w) (env : ℕ → List Bool) (long : (k : ℕ) →
 
   -- division
   module _ (t : List Entry) (made : WellMade w t) (i j : ℕ) (oi : Operand t (length t) i) (oj : Operand t (length t) j) where
-    quotient_long : length (quotient_b w (at t i) (at t j)) ≡ w
+    quotient_long : length (quotient_bits w (at t i) (at t j)) ≡ w
     quotient_long = length_bits_of w _
 
-    remainder_long : length (remainder_b w (at t i) (at t j)) ≡ w
+    remainder_long : length (remainder_bits w (at t i) (at t j)) ≡ w
     remainder_long = length_bits_of w _
 
-    product_long : length (mul_b (at t j) (quotient_b w (at t i) (at t j))) ≡ w
-    product_long = let l = operand_long w env long t made j oj in length_mul (at t j) (quotient_b w (at t i) (at t j)) (l ∙ sym quotient_long) ∙ l
+    product_long : length (mul_bits (at t j) (quotient_bits w (at t i) (at t j))) ≡ w
+    product_long = let l = operand_long w env long t made j oj in length_mul (at t j) (quotient_bits w (at t i) (at t j)) (l ∙ sym quotient_long) ∙ l
 
     word : (k : ℕ) → Operand t (length t) k → val (at t k) < 2 ^ w
     word k o = subst (λ n. val (at t k) < 2 ^ n) (operand_long w env long t made k o) (val_lt (at t k))
 
-    val_quotient : val (quotient_b w (at t i) (at t j)) ≡ do2 w Udiv (val (at t i)) (val (at t j))
+    val_quotient : val (quotient_bits w (at t i) (at t j)) ≡ do2 w Udiv (val (at t i)) (val (at t j))
     val_quotient = val_bits_of w _ (do2_word w Udiv (val (at t i)) (val (at t j)) pos (word i oi) (word j oj))
 
-    val_remainder : val (remainder_b w (at t i) (at t j)) ≡ do2 w Urem (val (at t i)) (val (at t j))
+    val_remainder : val (remainder_bits w (at t i) (at t j)) ≡ do2 w Urem (val (at t i)) (val (at t j))
     val_remainder = val_bits_of w _ (do2_word w Urem (val (at t i)) (val (at t j)) pos (word i oi) (word j oj))
 
-    has_divided : (p : ℕ) (part : List Bool) (x : ℕ) → p < 3 → take w (drop (p * w) (divide_b w (at t i) (at t j))) ≡ part → val part ≡ x → Has t (divided p i j t) x
-    has_divided p part x few is v =
+    has_divided : (p : DivisionWord) (part : List Bool) (x : ℕ) → take w (drop (order p * w) (divide_bits w (at t i) (at t j))) ≡ part → val part ≡ x → Has t (divided p i j t) x
+    has_divided p part x is v =
         let d = placed w env t (Divide i j) made (oi, oj) in
         let r = place (Divide i j) t in
         has_after t r.0 d.rest (divided p i j t) x d.extends
-        (has_entry r.0 (Part r.1 p) x d.made (d.inside, few, ap is_division d.entry) refl (ap (λ v. val (take w (drop (p * w) v))) d.word ∙ (ap val is ∙ v)))
+        (has_entry r.0 (Part r.1 p) x d.made (d.inside, ap is_division d.entry) refl (ap (λ v. val (take w (drop (order p * w) v))) d.word ∙ (ap val is ∙ v)))
 
-    has_quotient : Has t (divided 0 i j t) (do2 w Udiv (val (at t i)) (val (at t j)))
-    has_quotient = has_divided 0 _ _ (omega arith) (first_part _ (remainder_b w (at t i) (at t j)) _ quotient_long remainder_long product_long) val_quotient
+    has_quotient : Has t (divided Quotient i j t) (do2 w Udiv (val (at t i)) (val (at t j)))
+    has_quotient = has_divided Quotient _ _ (first_part _ (remainder_bits w (at t i) (at t j)) _ quotient_long remainder_long product_long) val_quotient
 
-    has_remainder : Has t (divided 1 i j t) (do2 w Urem (val (at t i)) (val (at t j)))
-    has_remainder = has_divided 1 _ _ (omega arith) (second_part (quotient_b w (at t i) (at t j)) _ _ quotient_long remainder_long product_long) val_remainder
+    has_remainder : Has t (divided Remainder i j t) (do2 w Urem (val (at t i)) (val (at t j)))
+    has_remainder = has_divided Remainder _ _ (second_part (quotient_bits w (at t i) (at t j)) _ _ quotient_long remainder_long product_long) val_remainder
 
   -- a product is made by itself, or it is the one of a division
   abbrev ByDivision : List Entry → ℕ → ℕ → Entry → Type 0
-  ByDivision t i j e = (k : ℕ) × (x : ℕ) × (e ≡ Part k 2) × (get_or t j (Name 0) ≡ Part k 0) × (get_or t k (Name 0) ≡ Divide x i)
+  ByDivision t i j e = (k : ℕ) × (x : ℕ) × (e ≡ Part k Product) × (get_or t j (Any 0) ≡ Part k Quotient) × (get_or t k (Any 0) ≡ Divide x i)
 
-  by_divider_lem : (t : List Entry) (i j k : ℕ) (e : Entry) → get_or t k (Name 0) ≡ e → get_or t j (Name 0) ≡ Part k 0 → (by_divider e k i j ≡ Binary Mul i j) ⊎ ByDivision t i j (by_divider e k i j)
-  by_divider_lem t i j k (Name x) q h = inl refl
+  by_divider_lem : (t : List Entry) (i j k : ℕ) (e : Entry) → get_or t k (Any 0) ≡ e → get_or t j (Any 0) ≡ Part k Quotient → (by_divider e k i j ≡ Binary Mul i j) ⊎ ByDivision t i j (by_divider e k i j)
+  by_divider_lem t i j k (Any x) q h = inl refl
+  by_divider_lem t i j k (Con x) q h = inl refl
   by_divider_lem t i j k (Number x) q h = inl refl
   by_divider_lem t i j k (Unary o x) q h = inl refl
   by_divider_lem t i j k (Binary o x y) q h = inl refl
@@ -127,40 +130,39 @@ module _ (w : ℕ) (pos : 0 < w) (env : ℕ → List Bool) (long : (k : ℕ) →
   by_divider_lem t i j k (Part x p) q h = inl refl
   by_divider_lem t i j k (Divide x y) q h = go (eqb y i) refl
     where
-      go : (b : Bool) → eqb y i ≡ b → (cond b (Part k 2) (Binary Mul i j) ≡ Binary Mul i j) ⊎ ByDivision t i j (cond b (Part k 2) (Binary Mul i j))
+      go : (b : Bool) → eqb y i ≡ b → (cond b (Part k Product) (Binary Mul i j) ≡ Binary Mul i j) ⊎ ByDivision t i j (cond b (Part k Product) (Binary Mul i j))
       go true s = inr (k, x, refl, h, q ∙ ap (Divide x) (eqb-true y i s))
       go false s = inl refl
 
-  by_quotient_lem : (t : List Entry) (i j : ℕ) (e : Entry) → get_or t j (Name 0) ≡ e → (by_quotient t e i j ≡ Binary Mul i j) ⊎ ByDivision t i j (by_quotient t e i j)
-  by_quotient_lem t i j (Name x) q = inl refl
+  by_quotient_lem : (t : List Entry) (i j : ℕ) (e : Entry) → get_or t j (Any 0) ≡ e → (by_quotient t e i j ≡ Binary Mul i j) ⊎ ByDivision t i j (by_quotient t e i j)
+  by_quotient_lem t i j (Any x) q = inl refl
+  by_quotient_lem t i j (Con x) q = inl refl
   by_quotient_lem t i j (Number x) q = inl refl
   by_quotient_lem t i j (Unary o x) q = inl refl
   by_quotient_lem t i j (Binary o x y) q = inl refl
   by_quotient_lem t i j (Ite c x y) q = inl refl
   by_quotient_lem t i j (Divide x y) q = inl refl
-  by_quotient_lem t i j (Part k p) q = go (eqb p 0) refl
-    where
-      go : (b : Bool) → eqb p 0 ≡ b → (cond b (by_divider (get_or t k (Name 0)) k i j) (Binary Mul i j) ≡ Binary Mul i j) ⊎ ByDivision t i j (cond b (by_divider (get_or t k (Name 0)) k i j) (Binary Mul i j))
-      go true s = by_divider_lem t i j k (get_or t k (Name 0)) refl (q ∙ ap (Part k) (eqb-true p 0 s))
-      go false s = inl refl
+  by_quotient_lem t i j (Part k Quotient) q = by_divider_lem t i j k (get_or t k (Any 0)) refl q
+  by_quotient_lem t i j (Part k Remainder) q = inl refl
+  by_quotient_lem t i j (Part k Product) q = inl refl
 
   module _ (t : List Entry) (made : WellMade w t) (i j : ℕ) (oi : Operand t (length t) i) (oj : Operand t (length t) j) where
-    has_shared : (k x : ℕ) → get_or t j (Name 0) ≡ Part k 0 → get_or t k (Name 0) ≡ Divide x i → Has t (place (Part k 2) t) (do2 w Mul (val (at t i)) (val (at t j)))
+    has_shared : (k x : ℕ) → get_or t j (Any 0) ≡ Part k Quotient → get_or t k (Any 0) ≡ Divide x i → Has t (place (Part k Product) t) (do2 w Mul (val (at t i)) (val (at t j)))
     has_shared k x ej ek =
-        let mj : MadeAt w t j (Part k 0) = subst (MadeAt w t j) ej (made j oj.0) in
+        let mj : MadeAt w t j (Part k Quotient) = subst (MadeAt w t j) ej (made j oj.0) in
         let kin : k < length t = omega (arith, mj.0, oj.0) in
         let mk : MadeAt w t k (Divide x i) = subst (MadeAt w t k) ek (made k kin) in
         let ox : Operand t (length t) x = (omega (arith, mk.0.0, kin), mk.0.1) in
-        let wk : at t k ≡ divide_b w (at t x) (at t i) = word_is_entry w env t made k kin ∙ ap (entry_b w env (words w env t)) ek in
+        let wk : at t k ≡ divide_bits w (at t x) (at t i) = word_is_entry w env t made k kin ∙ ap (entry_bits w env (words w env t)) ek in
         let lq = quotient_long t made x i ox oi in
         let lr = remainder_long t made x i ox oi in
         let lm = product_long t made x i ox oi in
-        let wj : at t j ≡ quotient_b w (at t x) (at t i) = word_is_entry w env t made j oj.0 ∙ (ap (entry_b w env (words w env t)) ej ∙ (ap (λ v. take w (drop (0 * w) v)) wk ∙ first_part _ _ _ lq lr lm)) in
-        let m : take w (drop (2 * w) (at t k)) ≡ mul_b (at t i) (at t j) = ap (λ v. take w (drop (2 * w) v)) wk ∙ (third_part _ _ _ lq lr lm ∙ ap (mul_b (at t i)) (sym wj)) in
-        has_entry t (Part k 2) _ made (kin, omega arith, ap is_division ek) refl (ap val m ∙ binary_value t made i j oi oj Mul refl)
+        let wj : at t j ≡ quotient_bits w (at t x) (at t i) = word_is_entry w env t made j oj.0 ∙ (ap (entry_bits w env (words w env t)) ej ∙ (ap (λ v. take w (drop (0 * w) v)) wk ∙ first_part _ _ _ lq lr lm)) in
+        let m : take w (drop (2 * w) (at t k)) ≡ mul_bits (at t i) (at t j) = ap (λ v. take w (drop (2 * w) v)) wk ∙ (third_part _ _ _ lq lr lm ∙ ap (mul_bits (at t i)) (sym wj)) in
+        has_entry t (Part k Product) _ made (kin, ap is_division ek) refl (ap val m ∙ binary_value t made i j oi oj Mul refl)
 
     has_ordered : Has t (place (product t i j) t) (do2 w Mul (val (at t i)) (val (at t j)))
-    has_ordered = elim (by_quotient_lem t i j (get_or t j (Name 0)) refl) [
+    has_ordered = elim (by_quotient_lem t i j (get_or t j (Any 0)) refl) [
       | inl e ↦ subst (λ p. Has t (place p t) (do2 w Mul (val (at t i)) (val (at t j)))) (sym e) (has_binary t made i j oi oj Mul refl)
       | inr h ↦ subst (λ p. Has t (place p t) (do2 w Mul (val (at t i)) (val (at t j)))) (sym h.2) (has_shared h.0 h.1 h.3 h.4)
     ]
@@ -189,8 +191,8 @@ module _ (w : ℕ) (pos : 0 < w) (env : ℕ → List Bool) (long : (k : ℕ) →
 
   module _ (a c : ℕ → ℕ) (anys : (k : ℕ) → k < 16 → val (env k) ≡ a k) (cons : (k : ℕ) → k < 16 → val (env (16 + k)) ≡ c k) where
     pub term_has_value : (e : Term) (t : List Entry) → ok_term w e ≡ true → WellMade w t → Has t (numbered e t) (eval w a c e)
-    term_has_value (any k) t ok made = let l = ltb-true k 16 ok in has_entry t (Name k) _ made (omega arith) refl (anys k l)
-    term_has_value (con k) t ok made = let l = ltb-true k 16 ok in has_entry t (Name (16 + k)) _ made (omega arith) refl (cons k l)
+    term_has_value (any k) t ok made = let l = ltb-true k 16 ok in has_entry t (Any k) _ made l refl (anys k l)
+    term_has_value (con k) t ok made = let l = ltb-true k 16 ok in has_entry t (Con k) _ made l refl (cons k l)
     term_has_value (lit x) t ok made = let l = ltb-true x (2 ^ w) ok in has_entry t (Number x) _ made l refl (val_bits_of w x l)
     term_has_value (unary o x) t ok made =
         let h = term_has_value x t ok made in

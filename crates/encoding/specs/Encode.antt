@@ -6,11 +6,12 @@ use Rattle.terms.specs.Terms.{Rule, terms}
 use Rattle.circuit.specs.Bits.{val, bits_of}
 use Rattle.circuit.specs.Nets.{Net, high, low, said, wires}
 use Rattle.circuit.specs.declared.gates.Bitwise.TheVariants.{Exclusive}
-use Rattle.circuit.specs.Circuits.{bitwise_n, ite_n, divide_n, unary_n, binary_n}
+use Rattle.circuit.specs.Circuits.{bitwise_net, ite_net, divide_net, unary_net, binary_net}
 use Rattle.circuit.specs.Meaning.{truth_of}
 use Rattle.encoding.specs.declared.entry.Entry.{Entry}
-use Rattle.encoding.specs.declared.entry.Entry.TheVariants.{Name, Number, Unary, Binary, Ite, Divide, Part}
+use Rattle.encoding.specs.declared.entry.Entry.TheVariants.{Any, Con, Number, Unary, Binary, Ite, Divide, Part}
 use Rattle.encoding.specs.Table.{numbered_all}
+use Rattle.encoding.specs.Values.{order}
 
 abbrev pub constant : Bool → Literal
 constant true = high
@@ -21,32 +22,33 @@ abbrev pub start : ℕ → Net
 start w = record { next = 1 + 32 * w; out = 2 ∷ 0 ∷ [] }
 
 -- an entry's word, over the words of the entries before it
-abbrev pub entry_n : ℕ → List (List Literal) → Entry → Net → Net × List Literal
-entry_n w ws (Name k) n = (n, wires w (1 + k * w))
-entry_n w ws (Number x) n = (n, map constant (bits_of w x))
-entry_n w ws (Unary o i) n = unary_n o (slice_index_or ws i []) n
-entry_n w ws (Binary o i j) n = binary_n o (slice_index_or ws i []) (slice_index_or ws j []) n
-entry_n w ws (Ite h i j) n = ite_n (slice_index_or ws h []) (slice_index_or ws i []) (slice_index_or ws j []) n
-entry_n w ws (Divide i j) n = divide_n w (slice_index_or ws i []) (slice_index_or ws j []) n
-entry_n w ws (Part k p) n = (n, take w (drop (p * w) (slice_index_or ws k [])))
+abbrev pub entry_net : ℕ → List (List Literal) → Entry → Net → Net × List Literal
+entry_net w ws (Any k) n = (n, wires w (1 + k * w))
+entry_net w ws (Con k) n = (n, wires w (1 + (16 + k) * w))
+entry_net w ws (Number x) n = (n, map constant (bits_of w x))
+entry_net w ws (Unary o i) n = unary_net o (slice_index_or ws i []) n
+entry_net w ws (Binary o i j) n = binary_net o (slice_index_or ws i []) (slice_index_or ws j []) n
+entry_net w ws (Ite h i j) n = ite_net (slice_index_or ws h []) (slice_index_or ws i []) (slice_index_or ws j []) n
+entry_net w ws (Divide i j) n = divide_net w (slice_index_or ws i []) (slice_index_or ws j []) n
+entry_net w ws (Part k p) n = (n, take w (drop (order p * w) (slice_index_or ws k [])))
 
 -- the words of a table's entries
-abbrev pub table_n : ℕ → List Entry → List (List Literal) → Net → Net × List (List Literal)
-table_n w [] ws n = (n, ws)
-table_n w (e ∷ es) ws n = let r = entry_n w ws e n in table_n w es (ws ++ (r.1 ∷ [])) r.0
+abbrev pub table_net : ℕ → List Entry → List (List Literal) → Net → Net × List (List Literal)
+table_net w [] ws n = (n, ws)
+table_net w (e ∷ es) ws n = let r = entry_net w ws e n in table_net w es (ws ++ (r.1 ∷ [])) r.0
 
 -- each needed term has a bit that is 1, and the sides have one in which they differ
-abbrev pub stated_n : List (List Literal) → List ℕ → Net → Net
-stated_n ws [] n = n
-stated_n ws (i ∷ []) n = n
-stated_n ws (i ∷ j ∷ []) n = let d = bitwise_n Exclusive (slice_index_or ws i []) (slice_index_or ws j []) n in said d.1 d.0
-stated_n ws (i ∷ j ∷ k ∷ is) n = stated_n ws (j ∷ k ∷ is) (said (slice_index_or ws i []) n)
+abbrev pub stated_net : List (List Literal) → List ℕ → Net → Net
+stated_net ws [] n = n
+stated_net ws (i ∷ []) n = n
+stated_net ws (i ∷ j ∷ []) n = let d = bitwise_net Exclusive (slice_index_or ws i []) (slice_index_or ws j []) n in said d.1 d.0
+stated_net ws (i ∷ j ∷ k ∷ is) n = stated_net ws (j ∷ k ∷ is) (said (slice_index_or ws i []) n)
 
 abbrev pub encode : Rule → Net
 encode r =
     let t = numbered_all (terms r) [] in
-    let b = table_n (bits r.width) t.0 [] (start (bits r.width)) in
-    stated_n b.1 t.1 b.0
+    let b = table_net (bits r.width) t.0 [] (start (bits r.width)) in
+    stated_net b.1 t.1 b.0
 
 -- the bits of name k by an assignment
 abbrev pub name_bits : ℕ → (ℕ → Bool) → ℕ → List Bool

@@ -2,10 +2,11 @@
 use Rattle.std.specs.Prelude.{ℕ, ◌+◌, ◌*◌, List, [], ◌∷◌}
 use Rattle.terms.specs.Terms.{load2}
 use Rattle.encoding.specs.declared.entry.Entry.{Entry}
-use Rattle.encoding.specs.declared.entry.Entry.TheVariants.{Name, Number, Unary, Binary, Ite, Divide, Part}
+use Rattle.encoding.specs.declared.entry.Entry.TheVariants.{Any, Con, Number, Unary, Binary, Ite, Divide, Part}
 
 abbrev pub entry_load : ℕ → Entry → ℕ
-entry_load w (Name k) = 0
+entry_load w (Any k) = 0
+entry_load w (Con k) = 0
 entry_load w (Number x) = 0
 entry_load w (Unary o i) = 16 * w
 entry_load w (Binary o i j) = load2 w o

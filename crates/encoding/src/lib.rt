@@ -6,5 +6,5 @@ mod entry;
 mod numbering;
 mod table;
 
-pub use entry::Entry;
+pub use entry::{DivisionWord, Entry};
 pub use table::Table;

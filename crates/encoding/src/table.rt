@@ -1,59 +1,76 @@
 // The table of a rule's words: each entry once.
-ghost use Rattle.std.specs.Prelude.{◌≡◌, ℕ, ◌+◌, ◌<◌, ◌≤◌, length, take};
-ghost use Rattle.encoding.specs.Table.{find, place};
+ghost use Rattle.std.specs.Prelude.{◌≡◌, ◌+◌, ◌<◌, ◌≤◌, List, [], length, position, slice_index_or};
+ghost use Rattle.encoding.specs.declared.entry.Entry.{Entry as EntryValue};
+ghost use Rattle.encoding.specs.declared.entry.Entry.TheVariants.{Any};
+ghost use Rattle.encoding.specs.Table.{same, place};
 
-use crate::entry::{Entry, Key};
+use crate::entry::Entry;
+use arrayvec::ArrayVec;
+use std::marker::Model;
 
 // A rule's terms have at most 32 operations. An operation makes two entries at most, a division and one
 // of its words, and has at most three parts; so of a term of n operations there are at most 4 n + 1
 // entries, and of the six terms at most 4 * 32 + 6.
 pub const MOST_ENTRIES: usize = 134;
 
-#[derive(Clone, Copy)]
+#[derive(Drop)]
 pub struct Table {
-    pub entries: [Entry; MOST_ENTRIES],
-    pub len: usize,
-    ghost fits: { len ≤ 134 },
-    ghost size: { length entries ≡ 134 },
+    entries: ArrayVec<Entry, MOST_ENTRIES>,
+}
+
+impl Model for Table {
+    ghost Value = { List EntryValue };
+
+    ghost view = { λ t. t.entries.items };
 }
 
 impl Table {
     // No entries yet.
     pub fn new() -> Table
-        ensures { result.len ≡ 0 }
+        ensures { result ≡ [] }
     {
         Table {
-            entries: [Entry::Name(0); MOST_ENTRIES],
-            len: 0,
+            entries: ArrayVec::new(),
         }
     }
 
-    // The place of the first entry with the key, or the one after the last.
-    fn find(&self, key: Key) -> usize
-        ensures { result ≡ find key (take self.now.len self.now.entries) }
+    // The entries, in the order in which they were made.
+    pub fn entries(&self) -> &[Entry]
+        ensures { result.now ≡ self.now }
     {
-        for i in 0..self.len {
-            if key.is(Key::of(self.entries[i])) {
-                return i;
-            }
-        }
-        self.len
+        self.entries.as_slice()
+    }
+
+    // The entry at place k, if there is one.
+    pub(crate) fn entry(&self, k: usize) -> Entry
+        ensures { result ≡ slice_index_or self.now k (Any 0) }
+    {
+        self.entries().get(k).copied().unwrap_or(Entry::Any(0))
+    }
+
+    // The place of an entry, if it is there.
+    fn find(&self, entry: Entry) -> Option<usize>
+        ensures { result ≡ position (λ x. same x entry) self.now }
+    {
+        self.entries().iter().position(|other| *other == entry)
     }
 
     // The place of an entry, which is added if it isn't there.
     pub fn place(&mut self, entry: Entry) -> usize
-        requires { self.old.len < 134 }
-        ensures table { take self.new.len self.new.entries ≡ (place entry (take self.old.len self.old.entries)).0 }
-        ensures place { result ≡ (place entry (take self.old.len self.old.entries)).1 }
-        ensures kept { self.old.len ≤ self.new.len }
-        ensures more { self.new.len ≤ self.old.len + 1 }
-        ensures inside { result < self.new.len }
+        requires { length self.old < 134 }
+        ensures table { self.new ≡ (place entry self.old).0 }
+        ensures place { result ≡ (place entry self.old).1 }
+        ensures kept { length self.old ≤ length self.new }
+        ensures more { length self.new ≤ length self.old + 1 }
+        ensures inside { result < length self.new }
     {
-        let i = self.find(Key::of(entry));
-        if i == self.len {
-            self.entries[i] = entry;
-            self.len += 1;
+        match self.find(entry) {
+            Some(i) => i,
+            None => {
+                let end = self.entries.len();
+                self.entries.push(entry);
+                end
+            }
         }
-        i
     }
 }

@@ -22,13 +22,13 @@ place-requires-in-Lit t c =
     omega (arith, ap entries_in (stands_lit _ _ c.in-Lit.x r.0 (sym c.node-node.ensures ∙ c.in-Lit.is) r.1), r.2)
 
 pub returns-in-Any : goal.returns-in-Any
-returns-in-Any t c = numbers_one _ _ _ _ _ _ _ (any c.in-Any.k) (λ e s. stands_any _ _ c.in-Any.k e (sym c.node-node.ensures ∙ c.in-Any.is) s) c.place.ensures.table c.place.ensures.place c.place.ensures.more
+returns-in-Any t c = numbers_one _ _ _ _ _ (any c.in-Any.k) (λ e s. stands_any _ _ c.in-Any.k e (sym c.node-node.ensures ∙ c.in-Any.is) s) c.place.ensures.table c.place.ensures.place c.place.ensures.more
 
 pub returns-in-Con : goal.returns-in-Con
-returns-in-Con t c = numbers_one _ _ _ _ _ _ _ (con c.in-Con.k) (λ e s. stands_con _ _ c.in-Con.k e (sym c.node-node.ensures ∙ c.in-Con.is) s) c.place-in-Con.ensures.table c.place-in-Con.ensures.place c.place-in-Con.ensures.more
+returns-in-Con t c = numbers_one _ _ _ _ _ (con c.in-Con.k) (λ e s. stands_con _ _ c.in-Con.k e (sym c.node-node.ensures ∙ c.in-Con.is) s) c.place-in-Con.ensures.table c.place-in-Con.ensures.place c.place-in-Con.ensures.more
 
 pub returns-in-Lit : goal.returns-in-Lit
-returns-in-Lit t c = numbers_one _ _ _ _ _ _ _ (lit c.in-Lit.x) (λ e s. stands_lit _ _ c.in-Lit.x e (sym c.node-node.ensures ∙ c.in-Lit.is) s) c.place-in-Lit.ensures.table c.place-in-Lit.ensures.place c.place-in-Lit.ensures.more
+returns-in-Lit t c = numbers_one _ _ _ _ _ (lit c.in-Lit.x) (λ e s. stands_lit _ _ c.in-Lit.x e (sym c.node-node.ensures ∙ c.in-Lit.is) s) c.place-in-Lit.ensures.table c.place-in-Lit.ensures.place c.place-in-Lit.ensures.more
 
 -- an operation on one part
 pub number_term-part-requires : goal.number_term-part-requires
@@ -44,7 +44,7 @@ place-requires-in-Unary t c =
     omega (arith, c.number_term-part.ensures.more s.0 s.3, ap entries_in s.1, r.2)
 
 pub returns-in-Unary : goal.returns-in-Unary
-returns-in-Unary t c = numbers_unary _ _ _ c.in-Unary.op (sym c.node-node.ensures ∙ c.in-Unary.is) _ _ _ _ _ _ _ _ c.number_term-part.ensures c.place-in-Unary.ensures.table c.place-in-Unary.ensures.place c.place-in-Unary.ensures.more
+returns-in-Unary t c = numbers_unary _ _ _ c.in-Unary.op (sym c.node-node.ensures ∙ c.in-Unary.is) _ _ _ _ _ c.number_term-part.ensures c.place-in-Unary.ensures.table c.place-in-Unary.ensures.place c.place-in-Unary.ensures.more
 
 -- on two
 pub number_term-left-requires : goal.number_term-left-requires
@@ -66,7 +66,7 @@ operate-requires t c =
     omega (arith, ap entries_in s.2, c.number_term-left.ensures.more s.0 s.5, c.number_term-right.ensures.more s.1 s.6, r.2)
 
 pub returns-in-Binary : goal.returns-in-Binary
-returns-in-Binary t c = numbers_binary _ _ _ _ c.in-Binary.op (sym c.node-node.ensures ∙ c.in-Binary.is) _ _ _ _ _ _ _ _ _ _ _ c.number_term-left.ensures c.number_term-right.ensures c.operate.ensures.table c.operate.ensures.place c.operate.ensures.more
+returns-in-Binary t c = numbers_binary _ _ _ _ c.in-Binary.op (sym c.node-node.ensures ∙ c.in-Binary.is) _ _ _ _ _ _ _ c.number_term-left.ensures c.number_term-right.ensures c.operate.ensures.table c.operate.ensures.place c.operate.ensures.more
 
 -- on three
 pub number_term-test-requires : goal.number_term-test-requires
@@ -94,4 +94,4 @@ place-requires-in-Ite t c =
     omega (arith, ap entries_in s.3, c.number_term-test.ensures.more s.0 s.7, c.number_term-then.ensures.more s.1 s.8, c.number_term-other.ensures.more s.2 s.9, r.2)
 
 pub returns-in-Ite : goal.returns-in-Ite
-returns-in-Ite t c = numbers_ite _ _ _ _ _ (sym c.node-node.ensures ∙ c.in-Ite.is) _ _ _ _ _ _ _ _ _ _ _ _ _ _ c.number_term-test.ensures c.number_term-then.ensures c.number_term-other.ensures c.place-in-Ite.ensures.table c.place-in-Ite.ensures.place c.place-in-Ite.ensures.more
+returns-in-Ite t c = numbers_ite _ _ _ _ _ (sym c.node-node.ensures ∙ c.in-Ite.is) _ _ _ _ _ _ _ _ _ c.number_term-test.ensures c.number_term-then.ensures c.number_term-other.ensures c.place-in-Ite.ensures.table c.place-in-Ite.ensures.place c.place-in-Ite.ensures.more

@@ -1,35 +1,39 @@
-use Rattle.std.proofs.Common.{◌≡◌, ◌<◌, [], ◌∷◌, length, get_or, sym, refl, ap, subst, arith}
+use Rattle.std.proofs.Common.{◌≡◌, ◌<◌, get_or, length, sym, refl, ap, ◌∙◌, subst, arith}
 use Rattle.terms.specs.Terms.{any, terms}
-use Rattle.encoding.proofs.Rules.{NumberedSoFar, numbered_none, root_at, root_room, numbered_more, numbered_all_lem}
+use Rattle.terms.specs.Nodes.{Stands}
+use Rattle.encoding.specs.Table.{Numbers}
+use Rattle.encoding.proofs.Rules.{numbered_none, root_at, root_room, numbered_more, numbered_all_lem}
 use Rattle.encoding.proofs.numbering.number_rule.Goals as goal
 
-pub loop-k-init : goal.loop-k-init
-loop-k-init c = subst (λ n. NumberedSoFar c.args.rule.now 0 c.new-table.result.entries n (0 ∷ 0 ∷ 0 ∷ 0 ∷ 0 ∷ 0 ∷ [])) (sym c.new-table.ensures) (numbered_none c.args.rule.now c.new-table.result.entries (0 ∷ 0 ∷ 0 ∷ 0 ∷ 0 ∷ 0 ∷ []) refl)
+pub loop-root-init : goal.loop-root-init
+loop-root-init c = rw (c.new-table.ensures, c.new-places.ensures) (numbered_none c.args.rule.now, refl)
 
 pub number_term-requires : goal.number_term-requires
 number_term-requires c =
     let x = c.args.rule.now in
-    let k = c.loop-k.k in
+    let k = c.loop-root.root-index in
     let r = c.requires in
-    let e = c.as_slice-roots.ensures.value in
-    let below : k < length x.roots.items = omega (arith, ap length e) in
-    let at = root_at x k below r.0 r.1 in
-    let room = root_room x k below c.loop-k.table.entries c.loop-k.table.len c.loop-k.places r.0 r.1 r.2 c.loop-k.invariant in
-    rw e (record { there = at.0; room = (get_or (terms r.0) k (any 0), at.1, room) })
+    let inside : k < length x.roots.items = omega (arith, ap length c.as_slice-root-items.ensures.value) in
+    let at = root_at x k inside r.0 r.1 in
+    let here : get_or x.roots.items k 0 ≡ get_or c.as_slice-root-items.result.now k 0 = ap (λ l. get_or l k 0) (sym c.as_slice-root-items.ensures.value) in
+    record {
+      there = subst (λ p. p < length x.nodes.items) here at.0;
+      room = (get_or (terms r.0) k (any 0), subst (λ p. Stands x.nodes.items p (get_or (terms r.0) k (any 0))) here at.1, root_room x k inside c.loop-root.table c.loop-root.places.items r.0 r.1 r.2 c.loop-root.invariant.0);
+    }
 
-pub loop-k-preserved : goal.loop-k-preserved
-loop-k-preserved c =
+pub loop-root-preserved : goal.loop-root-preserved
+loop-root-preserved c =
     let x = c.args.rule.now in
-    let e = c.as_slice-roots.ensures.value in
-    let few = c.as_slice-roots.ensures.fits in
-    numbered_more x c.loop-k.k (omega (arith, ap length e)) _ _ _ _ _ c.loop-k.places (omega arith) c.loop-k.invariant (rw e at c.number_term.ensures)
+    let k = c.loop-root.root-index in
+    let inside : k < length x.roots.items = omega (arith, ap length c.as_slice-root-items.ensures.value) in
+    let now = subst (λ l. Numbers x.nodes.items (get_or l k 0) c.loop-root.table c.number_term.new.table c.number_term.result) c.as_slice-root-items.ensures.value c.number_term.ensures in (
+      rw c.push.ensures.items (numbered_more x k inside c.loop-root.table c.number_term.new.table c.number_term.result c.loop-root.places.items c.loop-root.invariant.0 now),
+      c.push.ensures.len ∙ omega (arith, c.loop-root.invariant.1),
+    )
 
 pub returns : goal.returns
 returns c =
-    let x = c.args.rule.now in
-    let k : c.loop-k.k ≡ length x.roots.items = omega (arith, ap length c.as_slice-roots.ensures.value) in
-    let so = subst (λ j. NumberedSoFar x j c.loop-k.table.entries c.loop-k.table.len c.loop-k.places) k c.loop-k.invariant in
     record {
-      table = λ r rep. sym (ap (λ p. p.0) (numbered_all_lem x c.loop-k.table.entries c.loop-k.table.len c.loop-k.places r rep so));
-      places = λ r rep. sym (ap (λ p. p.1) (numbered_all_lem x c.loop-k.table.entries c.loop-k.table.len c.loop-k.places r rep so));
+      table = λ r rep. sym (ap (λ p. p.0) (numbered_all_lem c.args.rule.now c.loop-root.root-index c.loop-root.table c.loop-root.places.items r (omega (arith, ap length c.as_slice-root-items.ensures.value)) rep c.loop-root.invariant.0));
+      places = λ r rep. sym (ap (λ p. p.1) (numbered_all_lem c.args.rule.now c.loop-root.root-index c.loop-root.table c.loop-root.places.items r (omega (arith, ap length c.as_slice-root-items.ensures.value)) rep c.loop-root.invariant.0));
     }

@@ -1,8 +1,8 @@
-use Rattle.std.proofs.Common.{◌≡◌, take, drop}
-use Rattle.circuit.specs.Circuits.{turned, add_n}
-use Rattle.circuit.specs.Built.{built, Wrote}
-use Rattle.circuit.proofs.Loops.{after}
+use Rattle.std.proofs.Common.{◌≡◌, length, take}
+use Rattle.circuit.specs.Circuits.{add_net}
+use Rattle.circuit.specs.Built.{Wrote}
+use Rattle.circuit.proofs.Loops.{after, Side}
 use Rattle.circuit.proofs.builder.Builder.add.Given as goal
 
 abbrev pub invariant-loop-i : goal.invariant-loop-i
-invariant-loop-i l = Wrote l.initial.self l.self (built l.self) × (add_n l.x (turned l.invert l.y) l.initial.over (built l.initial.self) ≡ after (take l.i l.out) (add_n (drop l.i l.x) (turned l.invert (drop l.i l.y)) l.over (built l.self)))
+invariant-loop-i g l = Wrote l.initial.self l.self l.self.net × (add_net l.x l.y l.initial.over l.initial.self.net ≡ after (take l.i-iterator.count l.sum) (add_net l.i-iterator.iter.a.rest.now l.i-iterator.iter.b.rest.now l.over l.self.net)) × Side (length l.sum) l.i-iterator.count l.i-iterator.iter.a.rest.now l.i-iterator.iter.b.rest.now

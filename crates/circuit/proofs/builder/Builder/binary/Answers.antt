@@ -1,23 +1,17 @@
-use Rattle.std.proofs.Common.{◌≡◌, ℕ, sym, ap, ◌∙◌, subst, inl, inr, arith}
-use Rattle.circuit.specs.Circuits.{binary_n}
-use Rattle.circuit.specs.Built.{built, Wrote}
-use Rattle.circuit.proofs.Writing.{wrote_none}
-use Rattle.circuit.proofs.Filled.{zero_word}
+use Rattle.std.proofs.Common.{ap, ◌∙◌, inl, inr}
+use Rattle.circuit.specs.Bits.{flag}
+use Rattle.circuit.specs.Nets.{low}
+use Rattle.circuit.proofs.Filled.{flag_width, zero_width}
 use Rattle.circuit.proofs.builder.Builder.binary.Goals as goal
 
-pub returns-in-Udiv : goal.returns-in-Udiv
-returns-in-Udiv c =
-    let zero = zero_word c.args.out.now c.args.x.now c.clear.new.out c.requires.word c.clear.ensures in
-    let none = wrote_none c.args.self.now c.requires.room.inside in
-    elim c.in-Udiv.is [
-      | inl e ↦ record {
-        wrote = subst (λ o. Wrote c.args.self.now c.args.self.now (binary_n o c.args.x.now c.args.y.now (built c.args.self.now)).0) (sym e) none;
-        result = zero ∙ ap (λ o. (binary_n o c.args.x.now c.args.y.now (built c.args.self.now)).1) (sym e);
-        carries = λ m. let z : ◌≡◌ {A = ℕ} 0 1 = cc in let f : ⊥ = omega arith in absurd f;
-      }
-      | inr e ↦ record {
-        wrote = subst (λ o. Wrote c.args.self.now c.args.self.now (binary_n o c.args.x.now c.args.y.now (built c.args.self.now)).0) (sym e) none;
-        result = zero ∙ ap (λ o. (binary_n o c.args.x.now c.args.y.now (built c.args.self.now)).1) (sym e);
-        carries = λ m. let z : ◌≡◌ {A = ℕ} 0 1 = cc in let f : ⊥ = omega arith in absurd f;
-      }
-    ]
+pub returns-in-Udiv-clause-word : goal.returns-in-Udiv-clause-word
+returns-in-Udiv-clause-word g c = elim c.in-Udiv.is [ inl e ↦ rw e (zero_width g.row.WIDTH c.args.x.now c.told-x) | inr e ↦ rw e (zero_width g.row.WIDTH c.args.x.now c.told-x) ]
+
+pub returns-in-Comp-clause-word : goal.returns-in-Comp-clause-word
+returns-in-Comp-clause-word g c = rw c.in-Comp.is (c.flagged.ensures ∙ flag_width c.equal.result g.row.WIDTH c.args.x.now c.told-x ∙ ap (λ b. flag low b c.args.x.now) c.equal.ensures.output)
+
+pub returns-in-Ult-clause-word : goal.returns-in-Ult-clause-word
+returns-in-Ult-clause-word g c = rw c.in-Ult.is (c.flagged-in-Ult.ensures ∙ flag_width c.less.result g.row.WIDTH c.args.x.now c.told-x ∙ ap (λ b. flag low b c.args.x.now) c.less.ensures.output)
+
+pub returns-in-Slt-clause-word : goal.returns-in-Slt-clause-word
+returns-in-Slt-clause-word g c = rw c.in-Slt.is (c.flagged-in-Slt.ensures ∙ flag_width c.signed_less.result g.row.WIDTH c.args.x.now c.told-x ∙ ap (λ b. flag low b c.args.x.now) c.signed_less.ensures.output)

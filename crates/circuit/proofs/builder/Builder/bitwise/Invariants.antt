@@ -1,8 +1,8 @@
-use Rattle.std.proofs.Common.{◌≡◌, take, drop}
-use Rattle.circuit.specs.Circuits.{bitwise_n}
-use Rattle.circuit.specs.Built.{built, Wrote}
-use Rattle.circuit.proofs.Loops.{after, alone}
+use Rattle.std.proofs.Common.{◌≡◌, length, take}
+use Rattle.circuit.specs.Circuits.{bitwise_net}
+use Rattle.circuit.specs.Built.{Wrote}
+use Rattle.circuit.proofs.Loops.{after, alone, Side}
 use Rattle.circuit.proofs.builder.Builder.bitwise.Given as goal
 
 abbrev pub invariant-loop-i : goal.invariant-loop-i
-invariant-loop-i l = Wrote l.initial.self l.self (built l.self) × (alone (bitwise_n l.op l.x l.y (built l.initial.self)) ≡ after (take l.i l.out) (alone (bitwise_n l.op (drop l.i l.x) (drop l.i l.y) (built l.self))))
+invariant-loop-i g l = Wrote l.initial.self l.self l.self.net × (alone (bitwise_net l.op l.x l.y l.initial.self.net) ≡ after (take l.i-iterator.count l.word) (alone (bitwise_net l.op l.i-iterator.iter.a.rest.now l.i-iterator.iter.b.rest.now l.self.net))) × Side (length l.word) l.i-iterator.count l.i-iterator.iter.a.rest.now l.i-iterator.iter.b.rest.now

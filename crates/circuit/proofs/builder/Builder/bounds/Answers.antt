@@ -1,8 +1,9 @@
+use Rattle.std.proofs.Common.{rules}
 use Rattle.std.proofs.Common.{◌≡◌, List, [], ◌∷◌, ap, ◌∙◌}
 use Rattle.clauses.specs.declared.literal.Literal.{Literal}
-use Rattle.circuit.specs.Nets.{low, negated, said}
-use Rattle.circuit.specs.Circuits.{less_n, any_n, unless_n}
-use Rattle.circuit.specs.Built.{built}
+use Rattle.clauses.specs.Literals.{negated}
+use Rattle.circuit.specs.Nets.{low, said}
+use Rattle.circuit.specs.Circuits.{less_net, any_net, unless_net}
 use Rattle.circuit.proofs.Growing.{grows_same, grows_then, said_grows}
 use Rattle.circuit.proofs.Circuits.{any_grows, unless_grows}
 use Rattle.circuit.proofs.Writing.{fits_first, fits_next, fits_then, wrote_next, wrote_then}
@@ -13,38 +14,38 @@ two : {p q r s : Literal} → p ≡ q → r ≡ s → ◌≡◌ {A = List Litera
 two {p} {q} {r} {s} e f = ap (λ z. z ∷ r ∷ []) e ∙ ap (λ z. q ∷ z ∷ []) f
 
 pub less-less-requires : goal.less-less-requires
-less-less-requires c =
-    let l = less_n c.args.remainder.now c.args.y.now (built c.args.self.now) in
-    let a = any_n c.args.y.now low l.0 in
+less-less-requires g c =
+    let l = less_net c.args.remainder.now c.args.y.now c.args.self.now.net in
+    let a = any_net c.args.y.now low l.0 in
     let m = said (negated a.1 ∷ l.1 ∷ []) a.0 in
-    record { operand = c.requires.operand; room = fits_first (grows_then (any_grows c.args.y.now low l.0) (grows_then (said_grows (negated a.1 ∷ l.1 ∷ []) a.0) (unless_grows a.1 c.args.quotient.now m))) c.requires.room }
+    (search rules, fits_first (grows_then (any_grows c.args.y.now low l.0) (grows_then (said_grows (negated a.1 ∷ l.1 ∷ []) a.0) (unless_grows a.1 c.args.quotient.now m))) c.requires)
 
 pub any-some-requires : goal.any-some-requires
-any-some-requires c =
-    let l = less_n c.args.remainder.now c.args.y.now (built c.args.self.now) in
-    let a = any_n c.args.y.now low l.0 in
+any-some-requires g c =
+    let l = less_net c.args.remainder.now c.args.y.now c.args.self.now.net in
+    let a = any_net c.args.y.now low l.0 in
     let m = said (negated a.1 ∷ l.1 ∷ []) a.0 in
-    fits_next (λ k. (any_n c.args.y.now low k).0) c.less-less.ensures.wrote (grows_then (said_grows (negated a.1 ∷ l.1 ∷ []) a.0) (unless_grows a.1 c.args.quotient.now m)) c.requires.room
+    fits_next (λ k. (any_net c.args.y.now low k).0) c.less-less.ensures.wrote (grows_then (said_grows (negated a.1 ∷ l.1 ∷ []) a.0) (unless_grows a.1 c.args.quotient.now m)) c.requires
 
-pub clause2-requires : goal.clause2-requires
-clause2-requires c =
-    let l = less_n c.args.remainder.now c.args.y.now (built c.args.self.now) in
-    let a = any_n c.args.y.now low l.0 in
+pub clause-requires : goal.clause-requires
+clause-requires g c =
+    let l = less_net c.args.remainder.now c.args.y.now c.args.self.now.net in
+    let a = any_net c.args.y.now low l.0 in
     let m = said (negated a.1 ∷ l.1 ∷ []) a.0 in
-    let wrote = wrote_next (λ k. (any_n c.args.y.now low k).0) c.less-less.ensures.wrote c.any-some.ensures.wrote in
-    let some = c.any-some.ensures.output ∙ ap (λ k. (any_n c.args.y.now low k).1) c.less-less.ensures.wrote.net in
-    fits_then said wrote (two (c.negated-zero.ensures ∙ ap negated some) c.less-less.ensures.output) (unless_grows a.1 c.args.quotient.now m) c.requires.room
+    let wrote = wrote_next (λ k. (any_net c.args.y.now low k).0) c.less-less.ensures.wrote c.any-some.ensures.wrote in
+    let some = c.any-some.ensures.output ∙ ap (λ k. (any_net c.args.y.now low k).1) c.less-less.ensures.wrote.net in
+    fits_then said wrote (two (c.negated.ensures.value ∙ ap negated some) c.less-less.ensures.output) (unless_grows a.1 c.args.quotient.now m) c.requires
 
 pub unless-requires : goal.unless-requires
-unless-requires c =
-    let wrote = wrote_next (λ k. (any_n c.args.y.now low k).0) c.less-less.ensures.wrote c.any-some.ensures.wrote in
-    let some = c.any-some.ensures.output ∙ ap (λ k. (any_n c.args.y.now low k).1) c.less-less.ensures.wrote.net in
-    let both = wrote_then said wrote (two (c.negated-zero.ensures ∙ ap negated some) c.less-less.ensures.output) c.clause2.ensures in
-    fits_then (λ s k. unless_n s c.args.quotient.now k) both some (grows_same _) c.requires.room
+unless-requires g c =
+    let wrote = wrote_next (λ k. (any_net c.args.y.now low k).0) c.less-less.ensures.wrote c.any-some.ensures.wrote in
+    let some = c.any-some.ensures.output ∙ ap (λ k. (any_net c.args.y.now low k).1) c.less-less.ensures.wrote.net in
+    let both = wrote_then said wrote (two (c.negated.ensures.value ∙ ap negated some) c.less-less.ensures.output) c.clause.ensures in
+    fits_then (λ s k. unless_net s c.args.quotient.now k) both some (grows_same _) c.requires
 
 pub returns : goal.returns
-returns c =
-    let wrote = wrote_next (λ k. (any_n c.args.y.now low k).0) c.less-less.ensures.wrote c.any-some.ensures.wrote in
-    let some = c.any-some.ensures.output ∙ ap (λ k. (any_n c.args.y.now low k).1) c.less-less.ensures.wrote.net in
-    let both = wrote_then said wrote (two (c.negated-zero.ensures ∙ ap negated some) c.less-less.ensures.output) c.clause2.ensures in
-    wrote_then (λ s k. unless_n s c.args.quotient.now k) both some c.unless.ensures
+returns g c =
+    let wrote = wrote_next (λ k. (any_net c.args.y.now low k).0) c.less-less.ensures.wrote c.any-some.ensures.wrote in
+    let some = c.any-some.ensures.output ∙ ap (λ k. (any_net c.args.y.now low k).1) c.less-less.ensures.wrote.net in
+    let both = wrote_then said wrote (two (c.negated.ensures.value ∙ ap negated some) c.less-less.ensures.output) c.clause.ensures in
+    wrote_then (λ s k. unless_net s c.args.quotient.now k) both some c.unless.ensures

@@ -1,33 +1,24 @@
 use Rattle.std.proofs.Common.{◌≡◌, List, [], ◌∷◌}
 use Rattle.clauses.specs.declared.literal.Literal.{Literal}
-use Rattle.circuit.specs.declared.builder.Builder.{Builder}
-use Rattle.circuit.specs.Nets.{fresh, taken, negated}
+use Rattle.clauses.specs.Literals.{negated}
+use Rattle.circuit.specs.Nets.{fresh, taken}
 use Rattle.circuit.specs.Gates.{choice_rows, gate}
-use Rattle.circuit.specs.Built.{built, Fits, Wrote}
-use Rattle.circuit.proofs.Rows.{Rows, row_fits, row_written, rows_written, gate_fresh, gate_rows}
+use Rattle.circuit.specs.Built.{Written, Fits, Wrote}
+use Rattle.circuit.proofs.Rows.{Rows, rows_fit, rows_written, gate_fresh, gate_rows}
 use Rattle.circuit.proofs.builder.Builder.choice_gate.Goals as goal
 
 -- the clauses as the code has their literals
 abbrev clauses : Literal → Literal → Literal → Literal → Literal → Literal → Literal → Literal → List (List Literal)
 clauses o p s ns a na b nb = (ns ∷ p ∷ a ∷ []) ∷ (ns ∷ o ∷ na ∷ []) ∷ (s ∷ p ∷ b ∷ []) ∷ (s ∷ o ∷ nb ∷ []) ∷ []
 
-start : {x y : Builder} {o p s ns a na b nb : Literal} → Fits x (gate (λ o. choice_rows o s a b) (built x)).0 → Wrote x y (taken (built x)) → o ≡ fresh (built x) → p ≡ negated o → ns ≡ negated s → na ≡ negated a → nb ≡ negated b → Rows x y (clauses o p s ns a na b nb) (gate (λ o. choice_rows o s a b) (built x)).0
+start : {x y : Written} {o p s ns a na b nb : Literal} → Fits x (gate (λ o. choice_rows o s a b) x.net).0 → Wrote x y (taken x.net) → o ≡ fresh x.net → p ≡ negated o → ns ≡ negated s → na ≡ negated a → nb ≡ negated b → Rows x y (clauses o p s ns a na b nb) (gate (λ o. choice_rows o s a b) x.net).0
 start {x} {y} {o} {p} {s} {ns} {a} {na} {b} {nb} f w e ep es ea eb = gate_rows (λ o. choice_rows o s a b) o (clauses o p s ns a na b nb) f w e (rw (ep, es, ea, eb))
 
 pub fresh-output-requires : goal.fresh-output-requires
 fresh-output-requires c = gate_fresh (λ o. choice_rows o c.args.s c.args.a c.args.b) c.requires
 
-pub clause3-requires : goal.clause3-requires
-clause3-requires c = row_fits (start c.requires c.fresh-output.ensures.wrote c.fresh-output.ensures.literal c.negated-off.ensures c.negated-not_s.ensures c.negated-not_a.ensures c.negated-not_b.ensures)
-
-pub clause3-requires-2 : goal.clause3-requires-2
-clause3-requires-2 c = row_fits (row_written (start c.requires c.fresh-output.ensures.wrote c.fresh-output.ensures.literal c.negated-off.ensures c.negated-not_s.ensures c.negated-not_a.ensures c.negated-not_b.ensures) c.clause3.ensures)
-
-pub clause3-requires-3 : goal.clause3-requires-3
-clause3-requires-3 c = row_fits (row_written (row_written (start c.requires c.fresh-output.ensures.wrote c.fresh-output.ensures.literal c.negated-off.ensures c.negated-not_s.ensures c.negated-not_a.ensures c.negated-not_b.ensures) c.clause3.ensures) c.clause3-2.ensures)
-
-pub clause3-requires-4 : goal.clause3-requires-4
-clause3-requires-4 c = row_fits (row_written (row_written (row_written (start c.requires c.fresh-output.ensures.wrote c.fresh-output.ensures.literal c.negated-off.ensures c.negated-not_s.ensures c.negated-not_a.ensures c.negated-not_b.ensures) c.clause3.ensures) c.clause3-2.ensures) c.clause3-3.ensures)
+pub clauses-requires : goal.clauses-requires
+clauses-requires c = rows_fit (start c.requires c.fresh-output.ensures.wrote c.fresh-output.ensures.literal c.negated-off.ensures.value c.negated-not_s.ensures.value c.negated-not_a.ensures.value c.negated-not_b.ensures.value)
 
 pub returns : goal.returns
-returns c = record { wrote = rows_written (row_written (row_written (row_written (row_written (start c.requires c.fresh-output.ensures.wrote c.fresh-output.ensures.literal c.negated-off.ensures c.negated-not_s.ensures c.negated-not_a.ensures c.negated-not_b.ensures) c.clause3.ensures) c.clause3-2.ensures) c.clause3-3.ensures) c.clause3-4.ensures); output = c.fresh-output.ensures.literal }
+returns c = record { wrote = rows_written (start c.requires c.fresh-output.ensures.wrote c.fresh-output.ensures.literal c.negated-off.ensures.value c.negated-not_s.ensures.value c.negated-not_a.ensures.value c.negated-not_b.ensures.value) c.clauses.ensures; output = c.fresh-output.ensures.literal }

@@ -1,21 +1,14 @@
-use Rattle.std.proofs.Common.{◌+◌, [], ◌∷◌, drop, refl, ◌∙◌}
+use Rattle.std.proofs.Common.{◌+◌, [], ◌∷◌, drop, ◌∙◌}
 use Rattle.circuit.specs.Nets.{said}
-use Rattle.circuit.specs.Circuits.{denied_n}
-use Rattle.circuit.specs.Built.{built}
+use Rattle.circuit.specs.Circuits.{denied_net}
 use Rattle.circuit.proofs.Circuits.{denied_grows}
-use Rattle.circuit.proofs.Writing.{wrote_none, wrote_here}
-use Rattle.circuit.proofs.Loops.{loop_fits, loop_wrote, net_more}
-use Rattle.circuit.proofs.Clauses.{denied_more, denied_all}
+use Rattle.circuit.proofs.Writing.{wrote_here}
+use Rattle.circuit.proofs.Loops.{loop_fits, net_more}
+use Rattle.circuit.proofs.Clauses.{denied_more}
 use Rattle.circuit.proofs.builder.Builder.deny.Goals as goal
 
-pub loop-i-init : goal.loop-i-init
-loop-i-init c = (wrote_none _ c.requires.inside, refl)
+pub clause-requires : goal.clause-requires
+clause-requires c = loop_fits c.loop-bit.invariant.0 (c.loop-bit.invariant.1 ∙ denied_more c.args.x.now c.loop-bit.bit-index c.negated.result c.loop-bit.self.net c.loop-bit-test.true c.negated.ensures.value) (denied_grows (drop (c.loop-bit.bit-index + 1) c.args.x.now) (said (c.negated.result ∷ []) c.loop-bit.self.net)) c.requires
 
-pub clause1-requires : goal.clause1-requires
-clause1-requires c = loop_fits c.loop-i.invariant.0 (c.loop-i.invariant.1 ∙ denied_more c.args.x.now c.loop-i.i c.negated-off.result (built c.loop-i.self) c.loop-i-test.true c.negated-off.ensures) (denied_grows (drop (c.loop-i.i + 1) c.args.x.now) (said (c.negated-off.result ∷ []) (built c.loop-i.self))) c.requires
-
-pub loop-i-preserved : goal.loop-i-preserved
-loop-i-preserved c = (wrote_here c.loop-i.invariant.0 c.clause1.ensures, net_more (denied_n (drop (c.loop-i.i + 1) c.args.x.now)) (said (c.negated-off.result ∷ []) (built c.loop-i.self)) (c.loop-i.invariant.1 ∙ denied_more c.args.x.now c.loop-i.i c.negated-off.result (built c.loop-i.self) c.loop-i-test.true c.negated-off.ensures) c.clause1.ensures)
-
-pub returns : goal.returns
-returns c = loop_wrote c.loop-i.invariant.0 (c.loop-i.invariant.1 ∙ denied_all c.args.x.now c.loop-i.i (built c.loop-i.self) c.loop-i-test.false)
+pub loop-bit-preserved : goal.loop-bit-preserved
+loop-bit-preserved c = (wrote_here c.loop-bit.invariant.0 c.clause.ensures, net_more (denied_net (drop (c.loop-bit.bit-index + 1) c.args.x.now)) (said (c.negated.result ∷ []) c.loop-bit.self.net) (c.loop-bit.invariant.1 ∙ denied_more c.args.x.now c.loop-bit.bit-index c.negated.result c.loop-bit.self.net c.loop-bit-test.true c.negated.ensures.value) c.clause.ensures)

@@ -1,7 +1,7 @@
 use Rattle.std.proofs.Common.{◌≡◌, drop}
-use Rattle.circuit.specs.Circuits.{denied_n}
-use Rattle.circuit.specs.Built.{built, Wrote}
+use Rattle.circuit.specs.Circuits.{denied_net}
+use Rattle.circuit.specs.Built.{Wrote}
 use Rattle.circuit.proofs.builder.Builder.deny.Given as goal
 
-abbrev pub invariant-loop-i : goal.invariant-loop-i
-invariant-loop-i l = Wrote l.initial.self l.self (built l.self) × (denied_n l.x (built l.initial.self) ≡ denied_n (drop l.i l.x) (built l.self))
+abbrev pub invariant-loop-bit : goal.invariant-loop-bit
+invariant-loop-bit l = Wrote l.initial.self l.self l.self.net × (denied_net l.x l.initial.self.net ≡ denied_net (drop l.bit-index l.x) l.self.net)

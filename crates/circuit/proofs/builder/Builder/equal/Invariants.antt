@@ -1,7 +1,7 @@
-use Rattle.std.proofs.Common.{◌≡◌, drop}
-use Rattle.circuit.specs.Circuits.{equal_n}
-use Rattle.circuit.specs.Built.{built, Wrote}
+use Rattle.std.proofs.Common.{◌≡◌, length}
+use Rattle.circuit.specs.Circuits.{equal_net}
+use Rattle.circuit.specs.Built.{Wrote}
 use Rattle.circuit.proofs.builder.Builder.equal.Given as goal
 
-abbrev pub invariant-loop-i : goal.invariant-loop-i
-invariant-loop-i l = Wrote l.initial.self l.self (built l.self) × (equal_n l.x l.y l.initial.so_far (built l.initial.self) ≡ equal_n (drop l.i l.x) (drop l.i l.y) l.so_far (built l.self))
+abbrev pub invariant-loop-a : goal.invariant-loop-a
+invariant-loop-a g l = Wrote l.initial.self l.self l.self.net × (equal_net l.x l.y l.initial.so_far l.initial.self.net ≡ equal_net l.a-iterator.a.rest.now l.a-iterator.b.rest.now l.so_far l.self.net) × (length l.a-iterator.b.rest.now ≡ length l.a-iterator.a.rest.now)

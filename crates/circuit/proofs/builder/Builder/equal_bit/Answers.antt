@@ -1,28 +1,27 @@
 use Rattle.std.proofs.Common.{ap, ◌∙◌}
-use Rattle.circuit.specs.Nets.{negated}
-use Rattle.circuit.specs.Gates.{xor_n, and_n}
-use Rattle.circuit.specs.Parts.{equal_bit_n}
-use Rattle.circuit.specs.Built.{built}
+use Rattle.clauses.specs.Literals.{negated}
+use Rattle.circuit.specs.Gates.{xor_net, and_net}
+use Rattle.circuit.specs.Parts.{equal_bit_net}
 use Rattle.circuit.proofs.Growing.{grows_same}
 use Rattle.circuit.proofs.Circuits.{and_grows}
 use Rattle.circuit.proofs.Writing.{fits_first, fits_then, wrote_then, gives_then}
 use Rattle.circuit.proofs.builder.Builder.equal_bit.Goals as goal
 
 pub xor-apart-requires : goal.xor-apart-requires
-unfolding equal_bit_n
+unfolding equal_bit_net
 xor-apart-requires c =
-    let apart = xor_n c.args.x c.args.y (built c.args.self.now) in
+    let apart = xor_net c.args.x c.args.y c.args.self.now.net in
     fits_first (and_grows c.args.before (negated apart.1) apart.0) c.requires
 
 pub and-requires : goal.and-requires
-unfolding equal_bit_n
-and-requires c = fits_then (λ h k. (and_n c.args.before h k).0) c.xor-apart.ensures.wrote (c.negated-alike.ensures ∙ ap negated c.xor-apart.ensures.output) (grows_same _) c.requires
+unfolding equal_bit_net
+and-requires c = fits_then (λ h k. (and_net c.args.before h k).0) c.xor-apart.ensures.wrote (c.negated-alike.ensures.value ∙ ap negated c.xor-apart.ensures.output) (grows_same _) c.requires
 
 pub returns : goal.returns
-unfolding equal_bit_n
+unfolding equal_bit_net
 returns c =
-    let alike = c.negated-alike.ensures ∙ ap negated c.xor-apart.ensures.output in
+    let alike = c.negated-alike.ensures.value ∙ ap negated c.xor-apart.ensures.output in
     record {
-      wrote = wrote_then (λ h k. (and_n c.args.before h k).0) c.xor-apart.ensures.wrote alike c.and.ensures.wrote;
-      output = gives_then (λ h k. (and_n c.args.before h k).1) c.xor-apart.ensures.wrote alike c.and.ensures.output;
+      wrote = wrote_then (λ h k. (and_net c.args.before h k).0) c.xor-apart.ensures.wrote alike c.and.ensures.wrote;
+      output = gives_then (λ h k. (and_net c.args.before h k).1) c.xor-apart.ensures.wrote alike c.and.ensures.output;
     }

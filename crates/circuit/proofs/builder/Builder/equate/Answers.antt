@@ -1,39 +1,35 @@
-use Rattle.std.proofs.Common.{◌+◌, [], ◌∷◌, get_or, drop, refl, ◌∙◌, arith}
+use Rattle.std.proofs.Common.{[], ◌∷◌, length, refl, ap, ◌∙◌, arith}
+use Rattle.clauses.specs.Literals.{negated}
 use Rattle.circuit.specs.Nets.{said}
-use Rattle.circuit.specs.Circuits.{equated_n}
-use Rattle.circuit.specs.Built.{built}
+use Rattle.circuit.specs.Circuits.{equated_net}
 use Rattle.circuit.proofs.Growing.{grows_then, said_grows}
 use Rattle.circuit.proofs.Circuits.{equated_grows}
-use Rattle.circuit.proofs.Writing.{wrote_none, wrote_here, fits_next, wrote_next}
-use Rattle.circuit.proofs.Loops.{loop_fits, loop_room, loop_wrote, net_more}
-use Rattle.circuit.proofs.Clauses.{equated_more, equated_all}
-use Rattle.circuit.proofs.Steps.{blank}
+use Rattle.circuit.proofs.Writing.{wrote_here, fits_next, wrote_next}
+use Rattle.circuit.proofs.Loops.{loop_fits, loop_room, net_more}
+use Rattle.circuit.proofs.Clauses.{equated_next}
 use Rattle.circuit.proofs.builder.Builder.equate.Goals as goal
 
-pub loop-i-init : goal.loop-i-init
-loop-i-init c = (wrote_none _ c.requires.room.inside, refl)
+pub clause-requires : goal.clause-requires
+clause-requires g c =
+    let first = said (c.negated.result ∷ c.in-Some.b.now ∷ []) c.loop-a.self.net in
+    let second = said (c.in-Some.a.now ∷ negated c.in-Some.b.now ∷ []) first in
+    let more = equated_next c.negated.result (negated c.in-Some.b.now) c.loop-a.self.net c.in-Some.ensures.steps c.negated.ensures.value refl in
+    loop_fits c.loop-a.invariant.0 (c.loop-a.invariant.1 ∙ more) (grows_then (said_grows (c.in-Some.a.now ∷ negated c.in-Some.b.now ∷ []) first) (equated_grows c.next.new.self.a.rest.now c.next.new.self.b.rest.now second)) c.requires
 
-pub clause2-requires : goal.clause2-requires
-clause2-requires c =
-    let first = said (c.negated-not_x.result ∷ get_or c.args.y.now c.loop-i.i blank ∷ []) (built c.loop-i.self) in
-    let second = said (get_or c.args.x.now c.loop-i.i blank ∷ c.negated-not_y.result ∷ []) first in
-    let more = equated_more c.args.x.now c.args.y.now c.loop-i.i c.negated-not_x.result c.negated-not_y.result (built c.loop-i.self) c.loop-i-test.true (omega arith) c.negated-not_x.ensures c.negated-not_y.ensures in
-    loop_fits c.loop-i.invariant.0 (c.loop-i.invariant.1 ∙ more) (grows_then (said_grows (get_or c.args.x.now c.loop-i.i blank ∷ c.negated-not_y.result ∷ []) first) (equated_grows (drop (c.loop-i.i + 1) c.args.x.now) (drop (c.loop-i.i + 1) c.args.y.now) second)) c.requires.room
+pub clause-requires-in-loop-a : goal.clause-requires-in-loop-a
+clause-requires-in-loop-a g c =
+    let first = said (c.negated.result ∷ c.in-Some.b.now ∷ []) c.loop-a.self.net in
+    let second = said (c.in-Some.a.now ∷ c.negated-in-loop-a.result ∷ []) first in
+    let more = equated_next c.negated.result c.negated-in-loop-a.result c.loop-a.self.net c.in-Some.ensures.steps c.negated.ensures.value c.negated-in-loop-a.ensures.value in
+    fits_next (said (c.in-Some.a.now ∷ c.negated-in-loop-a.result ∷ [])) c.clause.ensures (equated_grows c.next.new.self.a.rest.now c.next.new.self.b.rest.now second) (loop_room c.loop-a.invariant.0 (c.loop-a.invariant.1 ∙ more) c.requires)
 
-pub clause2-requires-in-loop-i : goal.clause2-requires-in-loop-i
-clause2-requires-in-loop-i c =
-    let first = said (c.negated-not_x.result ∷ get_or c.args.y.now c.loop-i.i blank ∷ []) (built c.loop-i.self) in
-    let second = said (get_or c.args.x.now c.loop-i.i blank ∷ c.negated-not_y.result ∷ []) first in
-    let more = equated_more c.args.x.now c.args.y.now c.loop-i.i c.negated-not_x.result c.negated-not_y.result (built c.loop-i.self) c.loop-i-test.true (omega arith) c.negated-not_x.ensures c.negated-not_y.ensures in
-    fits_next (said (get_or c.args.x.now c.loop-i.i blank ∷ c.negated-not_y.result ∷ [])) c.clause2.ensures (equated_grows (drop (c.loop-i.i + 1) c.args.x.now) (drop (c.loop-i.i + 1) c.args.y.now) second) (loop_room c.loop-i.invariant.0 (c.loop-i.invariant.1 ∙ more) c.requires.room)
-
-pub loop-i-preserved : goal.loop-i-preserved
-loop-i-preserved c =
-    let first = said (c.negated-not_x.result ∷ get_or c.args.y.now c.loop-i.i blank ∷ []) (built c.loop-i.self) in
-    let second = said (get_or c.args.x.now c.loop-i.i blank ∷ c.negated-not_y.result ∷ []) first in
-    let more = equated_more c.args.x.now c.args.y.now c.loop-i.i c.negated-not_x.result c.negated-not_y.result (built c.loop-i.self) c.loop-i-test.true (omega arith) c.negated-not_x.ensures c.negated-not_y.ensures in
-    let wrote = wrote_next (said (get_or c.args.x.now c.loop-i.i blank ∷ c.negated-not_y.result ∷ [])) c.clause2.ensures c.clause2-in-loop-i.ensures in
-    (wrote_here c.loop-i.invariant.0 wrote, net_more (equated_n (drop (c.loop-i.i + 1) c.args.x.now) (drop (c.loop-i.i + 1) c.args.y.now)) second (c.loop-i.invariant.1 ∙ more) wrote)
-
-pub returns : goal.returns
-returns c = loop_wrote c.loop-i.invariant.0 (c.loop-i.invariant.1 ∙ equated_all c.args.x.now (drop c.loop-i.i c.args.y.now) c.loop-i.i (built c.loop-i.self) c.loop-i-test.false)
+pub loop-a-preserved : goal.loop-a-preserved
+loop-a-preserved g c =
+    let first = said (c.negated.result ∷ c.in-Some.b.now ∷ []) c.loop-a.self.net in
+    let second = said (c.in-Some.a.now ∷ c.negated-in-loop-a.result ∷ []) first in
+    let more = equated_next c.negated.result c.negated-in-loop-a.result c.loop-a.self.net c.in-Some.ensures.steps c.negated.ensures.value c.negated-in-loop-a.ensures.value in
+    let wrote = wrote_next (said (c.in-Some.a.now ∷ c.negated-in-loop-a.result ∷ [])) c.clause.ensures c.clause-in-loop-a.ensures in (
+      wrote_here c.loop-a.invariant.0 wrote,
+      net_more (equated_net c.next.new.self.a.rest.now c.next.new.self.b.rest.now) second (c.loop-a.invariant.1 ∙ more) wrote,
+      omega (arith, c.loop-a.invariant.2, ap length c.in-Some.ensures.steps.0, ap length c.in-Some.ensures.steps.1),
+    )

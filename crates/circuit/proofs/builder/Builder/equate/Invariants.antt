@@ -1,7 +1,7 @@
-use Rattle.std.proofs.Common.{◌≡◌, drop}
-use Rattle.circuit.specs.Circuits.{equated_n}
-use Rattle.circuit.specs.Built.{built, Wrote}
+use Rattle.std.proofs.Common.{◌≡◌, length}
+use Rattle.circuit.specs.Circuits.{equated_net}
+use Rattle.circuit.specs.Built.{Wrote}
 use Rattle.circuit.proofs.builder.Builder.equate.Given as goal
 
-abbrev pub invariant-loop-i : goal.invariant-loop-i
-invariant-loop-i l = Wrote l.initial.self l.self (built l.self) × (equated_n l.x l.y (built l.initial.self) ≡ equated_n (drop l.i l.x) (drop l.i l.y) (built l.self))
+abbrev pub invariant-loop-a : goal.invariant-loop-a
+invariant-loop-a g l = Wrote l.initial.self l.self l.self.net × (equated_net l.x l.y l.initial.self.net ≡ equated_net l.a-iterator.a.rest.now l.a-iterator.b.rest.now l.self.net) × (length l.a-iterator.b.rest.now ≡ length l.a-iterator.a.rest.now)

@@ -1,21 +1,14 @@
-use Rattle.std.proofs.Common.{◌+◌, [], ◌∷◌, drop, refl, ◌∙◌}
+use Rattle.std.proofs.Common.{◌+◌, [], ◌∷◌, drop, ◌∙◌}
 use Rattle.circuit.specs.Nets.{said}
-use Rattle.circuit.specs.Circuits.{none_n}
-use Rattle.circuit.specs.Built.{built}
+use Rattle.circuit.specs.Circuits.{none_net}
 use Rattle.circuit.proofs.Circuits.{none_grows}
-use Rattle.circuit.proofs.Writing.{wrote_none, wrote_here}
-use Rattle.circuit.proofs.Loops.{loop_fits, loop_wrote, net_more}
-use Rattle.circuit.proofs.Clauses.{none_more, none_all}
+use Rattle.circuit.proofs.Writing.{wrote_here}
+use Rattle.circuit.proofs.Loops.{loop_fits, net_more}
+use Rattle.circuit.proofs.Clauses.{none_more}
 use Rattle.circuit.proofs.builder.Builder.exclude.Goals as goal
 
-pub loop-i-init : goal.loop-i-init
-loop-i-init c = (wrote_none _ c.requires.inside, refl)
+pub clause-requires : goal.clause-requires
+clause-requires c = loop_fits c.loop-bit.invariant.0 (c.loop-bit.invariant.1 ∙ none_more c.args.b c.args.x.now c.loop-bit.bit-index c.negated.result c.negated-in-loop-bit.result c.loop-bit.self.net c.loop-bit-test.true c.negated.ensures.value c.negated-in-loop-bit.ensures.value) (none_grows c.args.b (drop (c.loop-bit.bit-index + 1) c.args.x.now) (said (c.negated.result ∷ c.negated-in-loop-bit.result ∷ []) c.loop-bit.self.net)) c.requires
 
-pub clause2-requires : goal.clause2-requires
-clause2-requires c = loop_fits c.loop-i.invariant.0 (c.loop-i.invariant.1 ∙ none_more c.args.b c.args.x.now c.loop-i.i c.negated-off.result c.negated-not_b.result (built c.loop-i.self) c.loop-i-test.true c.negated-off.ensures c.negated-not_b.ensures) (none_grows c.args.b (drop (c.loop-i.i + 1) c.args.x.now) (said (c.negated-off.result ∷ c.negated-not_b.result ∷ []) (built c.loop-i.self))) c.requires
-
-pub loop-i-preserved : goal.loop-i-preserved
-loop-i-preserved c = (wrote_here c.loop-i.invariant.0 c.clause2.ensures, net_more (none_n c.args.b (drop (c.loop-i.i + 1) c.args.x.now)) (said (c.negated-off.result ∷ c.negated-not_b.result ∷ []) (built c.loop-i.self)) (c.loop-i.invariant.1 ∙ none_more c.args.b c.args.x.now c.loop-i.i c.negated-off.result c.negated-not_b.result (built c.loop-i.self) c.loop-i-test.true c.negated-off.ensures c.negated-not_b.ensures) c.clause2.ensures)
-
-pub returns : goal.returns
-returns c = loop_wrote c.loop-i.invariant.0 (c.loop-i.invariant.1 ∙ none_all c.args.b c.args.x.now c.loop-i.i (built c.loop-i.self) c.loop-i-test.false)
+pub loop-bit-preserved : goal.loop-bit-preserved
+loop-bit-preserved c = (wrote_here c.loop-bit.invariant.0 c.clause.ensures, net_more (none_net c.args.b (drop (c.loop-bit.bit-index + 1) c.args.x.now)) (said (c.negated.result ∷ c.negated-in-loop-bit.result ∷ []) c.loop-bit.self.net) (c.loop-bit.invariant.1 ∙ none_more c.args.b c.args.x.now c.loop-bit.bit-index c.negated.result c.negated-in-loop-bit.result c.loop-bit.self.net c.loop-bit-test.true c.negated.ensures.value c.negated-in-loop-bit.ensures.value) c.clause.ensures)

@@ -1,7 +1,7 @@
 use Rattle.std.proofs.Common.{◌≡◌, drop}
-use Rattle.circuit.specs.Circuits.{none_n}
-use Rattle.circuit.specs.Built.{built, Wrote}
+use Rattle.circuit.specs.Circuits.{none_net}
+use Rattle.circuit.specs.Built.{Wrote}
 use Rattle.circuit.proofs.builder.Builder.exclude.Given as goal
 
-abbrev pub invariant-loop-i : goal.invariant-loop-i
-invariant-loop-i l = Wrote l.initial.self l.self (built l.self) × (none_n l.b l.x (built l.initial.self) ≡ none_n l.b (drop l.i l.x) (built l.self))
+abbrev pub invariant-loop-bit : goal.invariant-loop-bit
+invariant-loop-bit l = Wrote l.initial.self l.self l.self.net × (none_net l.b l.x l.initial.self.net ≡ none_net l.b (drop l.bit-index l.x) l.self.net)

@@ -1,43 +1,23 @@
-use Rattle.std.proofs.Common.{◌+◌, drop, sym, refl, ap, ◌∙◌, arith}
-use Rattle.circuit.specs.Nets.{negated}
-use Rattle.circuit.specs.Gates.{majority_n}
-use Rattle.circuit.specs.Circuits.{borrow_n}
-use Rattle.circuit.specs.Parts.{compared}
-use Rattle.circuit.specs.Built.{built}
+use Rattle.std.proofs.Common.{length, ap, ◌∙◌, arith}
+use Rattle.circuit.specs.Gates.{majority_net}
+use Rattle.circuit.specs.Circuits.{borrow_net}
 use Rattle.circuit.proofs.Circuits.{borrow_grows}
-use Rattle.circuit.proofs.Compared.{compared_length}
-use Rattle.circuit.proofs.Writing.{wrote_none, wrote_here}
-use Rattle.circuit.proofs.Loops.{loop_fits, loop_wrote, carried_more}
-use Rattle.circuit.proofs.Steps.{borrow_more, borrow_all}
+use Rattle.circuit.proofs.Writing.{wrote_here}
+use Rattle.circuit.proofs.Loops.{loop_fits, carried_more}
+use Rattle.circuit.proofs.Steps.{borrow_next}
 use Rattle.circuit.proofs.builder.Builder.less.Goals as goal
 
-pub loop-i-init : goal.loop-i-init
-loop-i-init c = (wrote_none _ c.requires.room.inside, refl)
-
 pub majority-enough-requires : goal.majority-enough-requires
-majority-enough-requires c =
-    let xs = compared c.args.signed c.args.x.now c.args.y.now in
-    let ys = compared c.args.signed c.args.y.now c.args.x.now in
-    let long = compared_length c.args.signed c.args.x.now c.args.y.now c.requires.operand in
-    let wide = compared_length c.args.signed c.args.y.now c.args.x.now (sym c.requires.operand) in
-    let t = majority_n c.compared_bit-left.result c.negated-inverse.result c.loop-i.enough (built c.loop-i.self) in
-    let more = borrow_more xs ys c.loop-i.i c.compared_bit-left.result c.negated-inverse.result c.loop-i.enough (built c.loop-i.self) (omega arith) (omega arith) c.compared_bit-left.ensures (c.negated-inverse.ensures ∙ ap negated c.compared_bit-right.ensures) in
-    loop_fits c.loop-i.invariant.0 (ap (λ r. r.0) (c.loop-i.invariant.1 ∙ more)) (borrow_grows (drop (c.loop-i.i + 1) xs) (drop (c.loop-i.i + 1) ys) t.1 t.0) c.requires.room
+majority-enough-requires g c =
+    let t = majority_net c.in-Some.a.now c.negated.result c.loop-a.enough c.loop-a.self.net in
+    let more = borrow_next c.negated.result c.loop-a.enough c.loop-a.self.net c.in-Some.ensures.steps c.negated.ensures.value in
+    loop_fits c.loop-a.invariant.0 (ap (λ r. r.0) (c.loop-a.invariant.1 ∙ more)) (borrow_grows c.next.new.self.a.rest.now c.next.new.self.b.rest.now t.1 t.0) c.requires
 
-pub loop-i-preserved : goal.loop-i-preserved
-loop-i-preserved c =
-    let xs = compared c.args.signed c.args.x.now c.args.y.now in
-    let ys = compared c.args.signed c.args.y.now c.args.x.now in
-    let long = compared_length c.args.signed c.args.x.now c.args.y.now c.requires.operand in
-    let wide = compared_length c.args.signed c.args.y.now c.args.x.now (sym c.requires.operand) in
-    let t = majority_n c.compared_bit-left.result c.negated-inverse.result c.loop-i.enough (built c.loop-i.self) in
-    let more = borrow_more xs ys c.loop-i.i c.compared_bit-left.result c.negated-inverse.result c.loop-i.enough (built c.loop-i.self) (omega arith) (omega arith) c.compared_bit-left.ensures (c.negated-inverse.ensures ∙ ap negated c.compared_bit-right.ensures) in
-    (wrote_here c.loop-i.invariant.0 c.majority-enough.ensures.wrote, carried_more (borrow_n (drop (c.loop-i.i + 1) xs) (drop (c.loop-i.i + 1) ys)) t c.majority-enough.result (c.loop-i.invariant.1 ∙ more) c.majority-enough.ensures.wrote c.majority-enough.ensures.output)
-
-pub returns : goal.returns
-returns c =
-    let xs = compared c.args.signed c.args.x.now c.args.y.now in
-    let ys = compared c.args.signed c.args.y.now c.args.x.now in
-    let long = compared_length c.args.signed c.args.x.now c.args.y.now c.requires.operand in
-    let all = c.loop-i.invariant.1 ∙ borrow_all xs (drop c.loop-i.i ys) c.loop-i.i c.loop-i.enough (built c.loop-i.self) (omega arith) in
-    record { wrote = loop_wrote c.loop-i.invariant.0 (ap (λ r. r.0) all); output = c.negated.ensures ∙ ap negated (sym (ap (λ r. r.1) all)) }
+pub loop-a-preserved : goal.loop-a-preserved
+loop-a-preserved g c =
+    let t = majority_net c.in-Some.a.now c.negated.result c.loop-a.enough c.loop-a.self.net in
+    let more = borrow_next c.negated.result c.loop-a.enough c.loop-a.self.net c.in-Some.ensures.steps c.negated.ensures.value in (
+      wrote_here c.loop-a.invariant.0 c.majority-enough.ensures.wrote,
+      carried_more (borrow_net c.next.new.self.a.rest.now c.next.new.self.b.rest.now) t c.majority-enough.result (c.loop-a.invariant.1 ∙ more) c.majority-enough.ensures.wrote c.majority-enough.ensures.output,
+      omega (arith, c.loop-a.invariant.2, ap length c.in-Some.ensures.steps.0, ap length c.in-Some.ensures.steps.1),
+    )

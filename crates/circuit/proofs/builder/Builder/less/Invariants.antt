@@ -1,8 +1,7 @@
-use Rattle.std.proofs.Common.{◌≡◌, drop}
-use Rattle.circuit.specs.Circuits.{borrow_n}
-use Rattle.circuit.specs.Parts.{compared}
-use Rattle.circuit.specs.Built.{built, Wrote}
+use Rattle.std.proofs.Common.{◌≡◌, length}
+use Rattle.circuit.specs.Circuits.{borrow_net}
+use Rattle.circuit.specs.Built.{Wrote}
 use Rattle.circuit.proofs.builder.Builder.less.Given as goal
 
-abbrev pub invariant-loop-i : goal.invariant-loop-i
-invariant-loop-i l = Wrote l.initial.self l.self (built l.self) × (borrow_n (compared l.signed l.x l.y) (compared l.signed l.y l.x) l.initial.enough (built l.initial.self) ≡ borrow_n (drop l.i (compared l.signed l.x l.y)) (drop l.i (compared l.signed l.y l.x)) l.enough (built l.self))
+abbrev pub invariant-loop-a : goal.invariant-loop-a
+invariant-loop-a g l = Wrote l.initial.self l.self l.self.net × (borrow_net l.x l.y l.initial.enough l.initial.self.net ≡ borrow_net l.a-iterator.a.rest.now l.a-iterator.b.rest.now l.enough l.self.net) × (length l.a-iterator.b.rest.now ≡ length l.a-iterator.a.rest.now)

@@ -1,39 +1,24 @@
 use Rattle.std.proofs.Common.{◌≡◌, List, [], ◌∷◌}
 use Rattle.clauses.specs.declared.literal.Literal.{Literal}
-use Rattle.circuit.specs.declared.builder.Builder.{Builder}
-use Rattle.circuit.specs.Nets.{fresh, taken, negated}
+use Rattle.clauses.specs.Literals.{negated}
+use Rattle.circuit.specs.Nets.{fresh, taken}
 use Rattle.circuit.specs.Gates.{majority_rows, gate}
-use Rattle.circuit.specs.Built.{built, Fits, Wrote}
-use Rattle.circuit.proofs.Rows.{Rows, row_fits, row_written, rows_written, gate_fresh, gate_rows}
+use Rattle.circuit.specs.Built.{Written, Fits, Wrote}
+use Rattle.circuit.proofs.Rows.{Rows, rows_fit, rows_written, gate_fresh, gate_rows}
 use Rattle.circuit.proofs.builder.Builder.majority_gate.Goals as goal
 
 -- the clauses as the code has their literals
 abbrev clauses : Literal → Literal → Literal → Literal → Literal → Literal → Literal → Literal → List (List Literal)
 clauses o p a na b nb c nc = (p ∷ a ∷ b ∷ []) ∷ (p ∷ a ∷ c ∷ []) ∷ (p ∷ b ∷ c ∷ []) ∷ (o ∷ na ∷ nb ∷ []) ∷ (o ∷ na ∷ nc ∷ []) ∷ (o ∷ nb ∷ nc ∷ []) ∷ []
 
-start : {x y : Builder} {o p a na b nb c nc : Literal} → Fits x (gate (λ o. majority_rows o a b c) (built x)).0 → Wrote x y (taken (built x)) → o ≡ fresh (built x) → p ≡ negated o → na ≡ negated a → nb ≡ negated b → nc ≡ negated c → Rows x y (clauses o p a na b nb c nc) (gate (λ o. majority_rows o a b c) (built x)).0
+start : {x y : Written} {o p a na b nb c nc : Literal} → Fits x (gate (λ o. majority_rows o a b c) x.net).0 → Wrote x y (taken x.net) → o ≡ fresh x.net → p ≡ negated o → na ≡ negated a → nb ≡ negated b → nc ≡ negated c → Rows x y (clauses o p a na b nb c nc) (gate (λ o. majority_rows o a b c) x.net).0
 start {x} {y} {o} {p} {a} {na} {b} {nb} {c} {nc} f w e ep ea eb ec = gate_rows (λ o. majority_rows o a b c) o (clauses o p a na b nb c nc) f w e (rw (ep, ea, eb, ec))
 
 pub fresh-output-requires : goal.fresh-output-requires
 fresh-output-requires c = gate_fresh (λ o. majority_rows o c.args.a c.args.b c.args.c) c.requires
 
-pub clause3-requires : goal.clause3-requires
-clause3-requires c = row_fits (start c.requires c.fresh-output.ensures.wrote c.fresh-output.ensures.literal c.negated-off.ensures c.negated-not_a.ensures c.negated-not_b.ensures c.negated-not_c.ensures)
-
-pub clause3-requires-2 : goal.clause3-requires-2
-clause3-requires-2 c = row_fits (row_written (start c.requires c.fresh-output.ensures.wrote c.fresh-output.ensures.literal c.negated-off.ensures c.negated-not_a.ensures c.negated-not_b.ensures c.negated-not_c.ensures) c.clause3.ensures)
-
-pub clause3-requires-3 : goal.clause3-requires-3
-clause3-requires-3 c = row_fits (row_written (row_written (start c.requires c.fresh-output.ensures.wrote c.fresh-output.ensures.literal c.negated-off.ensures c.negated-not_a.ensures c.negated-not_b.ensures c.negated-not_c.ensures) c.clause3.ensures) c.clause3-2.ensures)
-
-pub clause3-requires-4 : goal.clause3-requires-4
-clause3-requires-4 c = row_fits (row_written (row_written (row_written (start c.requires c.fresh-output.ensures.wrote c.fresh-output.ensures.literal c.negated-off.ensures c.negated-not_a.ensures c.negated-not_b.ensures c.negated-not_c.ensures) c.clause3.ensures) c.clause3-2.ensures) c.clause3-3.ensures)
-
-pub clause3-requires-5 : goal.clause3-requires-5
-clause3-requires-5 c = row_fits (row_written (row_written (row_written (row_written (start c.requires c.fresh-output.ensures.wrote c.fresh-output.ensures.literal c.negated-off.ensures c.negated-not_a.ensures c.negated-not_b.ensures c.negated-not_c.ensures) c.clause3.ensures) c.clause3-2.ensures) c.clause3-3.ensures) c.clause3-4.ensures)
-
-pub clause3-requires-6 : goal.clause3-requires-6
-clause3-requires-6 c = row_fits (row_written (row_written (row_written (row_written (row_written (start c.requires c.fresh-output.ensures.wrote c.fresh-output.ensures.literal c.negated-off.ensures c.negated-not_a.ensures c.negated-not_b.ensures c.negated-not_c.ensures) c.clause3.ensures) c.clause3-2.ensures) c.clause3-3.ensures) c.clause3-4.ensures) c.clause3-5.ensures)
+pub clauses-requires : goal.clauses-requires
+clauses-requires c = rows_fit (start c.requires c.fresh-output.ensures.wrote c.fresh-output.ensures.literal c.negated-off.ensures.value c.negated-not_a.ensures.value c.negated-not_b.ensures.value c.negated-not_c.ensures.value)
 
 pub returns : goal.returns
-returns c = record { wrote = rows_written (row_written (row_written (row_written (row_written (row_written (row_written (start c.requires c.fresh-output.ensures.wrote c.fresh-output.ensures.literal c.negated-off.ensures c.negated-not_a.ensures c.negated-not_b.ensures c.negated-not_c.ensures) c.clause3.ensures) c.clause3-2.ensures) c.clause3-3.ensures) c.clause3-4.ensures) c.clause3-5.ensures) c.clause3-6.ensures); output = c.fresh-output.ensures.literal }
+returns c = record { wrote = rows_written (start c.requires c.fresh-output.ensures.wrote c.fresh-output.ensures.literal c.negated-off.ensures.value c.negated-not_a.ensures.value c.negated-not_b.ensures.value c.negated-not_c.ensures.value) c.clauses.ensures; output = c.fresh-output.ensures.literal }

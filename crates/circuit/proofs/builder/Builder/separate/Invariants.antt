@@ -1,7 +1,7 @@
-use Rattle.std.proofs.Common.{◌≡◌, ◌-◌, length, take, drop}
-use Rattle.circuit.specs.Circuits.{apart_n}
-use Rattle.circuit.specs.Built.{built, Wrote}
+use Rattle.std.proofs.Common.{◌≡◌, ◌+◌, length, drop}
+use Rattle.circuit.specs.Circuits.{apart_net}
+use Rattle.circuit.specs.Built.{Wrote}
 use Rattle.circuit.proofs.builder.Builder.separate.Given as goal
 
 abbrev pub invariant-loop-i : goal.invariant-loop-i
-invariant-loop-i l = Wrote l.initial.self l.self (built l.self) × (apart_n l.x l.y (built l.initial.self) ≡ apart_n (drop l.i l.x) (take (length l.x - l.i) l.y) (built l.self))
+invariant-loop-i g l = Wrote l.initial.self l.self l.self.net × (apart_net l.x l.y l.initial.self.net ≡ apart_net (drop l.i-iterator.count l.word) l.i-iterator.iter.iter.rest.now l.self.net) × (l.i-iterator.count + length l.i-iterator.iter.iter.rest.now ≡ length l.word)

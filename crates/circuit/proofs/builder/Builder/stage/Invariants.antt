@@ -1,9 +1,0 @@
-use Rattle.std.proofs.Common.{◌≡◌, take, drop}
-use Rattle.circuit.specs.Bits.{moved}
-use Rattle.circuit.specs.Circuits.{choose_n}
-use Rattle.circuit.specs.Built.{built, Wrote}
-use Rattle.circuit.proofs.Loops.{after, alone}
-use Rattle.circuit.proofs.builder.Builder.stage.Given as goal
-
-abbrev pub invariant-loop-i : goal.invariant-loop-i
-invariant-loop-i l = Wrote l.initial.self l.self (built l.self) × (alone (choose_n l.s (moved l.left l.incoming l.places l.x) l.x (built l.initial.self)) ≡ after (take l.i l.out) (alone (choose_n l.s (drop l.i (moved l.left l.incoming l.places l.x)) (drop l.i l.x) (built l.self))))

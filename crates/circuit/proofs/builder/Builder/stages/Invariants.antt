@@ -1,7 +1,0 @@
-use Rattle.std.proofs.Common.{◌≡◌, length, drop}
-use Rattle.circuit.specs.Circuits.{shift_n}
-use Rattle.circuit.specs.Built.{built, Wrote}
-use Rattle.circuit.proofs.builder.Builder.stages.Given as goal
-
-abbrev pub invariant-loop-i : goal.invariant-loop-i
-invariant-loop-i l = Wrote l.initial.self l.self (built l.self) × (shift_n l.left l.incoming (length l.initial.out) l.initial.places l.initial.out l.count (built l.initial.self) ≡ shift_n l.left l.incoming (length l.initial.out) l.places l.out (drop l.i l.count) (built l.self))
