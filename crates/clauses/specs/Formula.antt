@@ -3,7 +3,7 @@ use Rattle.std.specs.Prelude.{ℕ, zero, suc, ◌+◌, Bool, true, false, List, 
 use Rattle.std.proofs.Math.Bool.{Bool-set}
 use Rattle.clauses.specs.declared.solved.Refusal.{Refusal}
 use Rattle.clauses.specs.declared.solved.Refusal.TheVariants.{NoClauses, Small}
-use Rattle.clauses.specs.Flat.{Well, Within, Beyond}
+use Rattle.clauses.specs.Flat.{Well, Beyond}
 
 abbrev pub Refused : List ℕ → ℕ → Refusal → Type 0
 Refused ws n NoClauses = Well false ws → ⊥

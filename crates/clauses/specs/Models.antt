@@ -1,6 +1,6 @@
 -- A model as bytes, and as the literals that are true.
 use Rattle.std.specs.Int.{from_bool}
-use Rattle.std.specs.Prelude.{◌≡◌, ℕ, ◌+◌, ◌-◌, ◌/◌, ◌%◌, ◌<◌, ◌≤◌, Bool, cond, List, ◌==◌, ◌≢◌, slice_index, slice_index_or}
+use Rattle.std.specs.Prelude.{◌≡◌, ℕ, ◌+◌, ◌-◌, ◌/◌, ◌%◌, ◌<◌, ◌≤◌, Bool, List, ◌==◌, ◌≢◌, slice_index, slice_index_or}
 
 -- the truth of variable v by the bytes of a model
 abbrev pub byte_sign : List ℕ → ℕ → Bool

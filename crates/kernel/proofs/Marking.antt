@@ -1,5 +1,5 @@
 -- How many variables are marked.
-use Rattle.std.proofs.Common.{◌≡◌, ℕ, ◌+◌, ◌<◌, ◌≤◌, Bool, true, false, List, length, get_or, arith}
+use Rattle.std.proofs.Common.{◌≡◌, ℕ, ◌<◌, ◌≤◌, Bool, true, false, List, length, get_or, arith}
 use Rattle.std.specs.Int.{from_bool}
 use Rattle.kernel.specs.Resolve.{Counts}
 use Rattle.kernel.proofs.Zeros.{zeros_all, zeros_full}

@@ -1,7 +1,7 @@
 -- The trail: the literals that are set, in the order in which they were.
 -- values holds at a variable's place the code of its literal that is true, or 0.
-use Rattle.std.specs.Prelude.{◌≡◌, ℕ, zero, suc, ◌+◌, ◌-◌, ◌*◌, ◌/◌, ◌^◌, ◌<◌, ◌≤◌, Bool, true, cond, List, [], ◌∷◌, length, take, ◌==◌, ◌≢◌, slice_index, slice_index_or}
-use Rattle.clauses.specs.Flat.{lit_truth, Model, Within, Hopeless}
+use Rattle.std.specs.Prelude.{◌≡◌, ℕ, zero, suc, ◌+◌, ◌*◌, ◌/◌, ◌^◌, ◌<◌, ◌≤◌, Bool, true, cond, List, [], ◌∷◌, length, ◌==◌, ◌≢◌, slice_index, slice_index_or}
+use Rattle.clauses.specs.Flat.{lit_truth, Model, Within}
 
 -- how many words are 0
 abbrev pub zeros : List ℕ → ℕ

@@ -35,7 +35,8 @@ impl Search<'_> {
     {
         let literals = self.arena.clause(c)?;
         let places = self.guide.phases.places();
-        self.marks.absorb(&self.trail, literals, resolved, places, from)
+        self.marks
+            .absorb(&self.trail, literals, resolved, places, from)
     }
 
     // Marks what is to blame for the clause at c being false, back to the first unique implication

@@ -1,5 +1,5 @@
 -- Values that make every clause true are a model, and so are the signs that are written from them.
-use Rattle.std.proofs.Common.{◌≡◌, ℕ, ◌+◌, ◌-◌, ◌*◌, ◌/◌, ◌%◌, ◌<◌, ◌≤◌, Ok, Err, Bool, false, eqb, List, length, get_or, sym, refl, ap, ◌∙◌, subst, inl, inr, arith}
+use Rattle.std.proofs.Common.{◌≡◌, ℕ, ◌+◌, ◌-◌, ◌*◌, ◌/◌, ◌%◌, ◌<◌, ◌≤◌, Ok, Err, false, eqb, List, length, get_or, sym, refl, ap, ◌∙◌, subst, inl, inr, arith}
 use Rattle.clauses.specs.declared.solved.Answer.{Answer}
 use Rattle.clauses.specs.declared.solved.Answer.TheVariants.{Met, Never}
 use Rattle.clauses.specs.declared.solved.Refusal.{Refusal}

@@ -1,9 +1,7 @@
 -- What a turn of the search comes to, from what its steps promise.
-use Rattle.std.proofs.Common.{◌≡◌, ℕ, ◌-◌, ◌<◌, Option, Some, None, length, ◌∙◌, arith}
-use Rattle.clauses.specs.declared.solved.Answer.{Answer}
-use Rattle.clauses.specs.declared.solved.Answer.TheVariants.{Met, Never}
-use Rattle.kernel.specs.Trail.{Trailed, Further, Went}
-use Rattle.kernel.proofs.Budgets.{left_further, left_over, left_went}
+use Rattle.std.proofs.Common.{◌≡◌, ℕ, ◌-◌, ◌<◌, None, length}
+use Rattle.kernel.specs.Trail.{Trailed, Further}
+use Rattle.kernel.proofs.Budgets.{left_further, left_over}
 use Rattle.solver.specs.Steps.{Turned}
 
 -- a step on

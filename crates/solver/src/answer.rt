@@ -89,12 +89,7 @@ fn solve_plain(formula: &Formula, model: &mut [u8], work: &mut [u32]) -> Answer
 }
 
 // Says whether some assignment meets all clauses, writes one, and counts fallbacks.
-fn answer(
-    clauses: &[u32],
-    model: &mut [u8],
-    work: &mut [u32],
-    fallbacks: &mut Fallbacks,
-) -> Solved
+fn answer(clauses: &[u32], model: &mut [u8], work: &mut [u32], fallbacks: &mut Fallbacks) -> Solved
     ensures { SolvedPost clauses.now (length work.old) model.old model.new result }
 {
     if !enough_room(clauses.len(), model.len(), work.len()) {

@@ -11,5 +11,4 @@ mod reduce;
 mod restart;
 mod solver;
 
-
 pub use answer::{Counted, find_model, solve, solve_counted};

@@ -28,7 +28,9 @@ fn count_scores(arena: &Arena, lists: &Occurrences, given: usize) -> [u32; SCORE
 // The largest score to keep: that of the better half, at least 2. Where there was no room and that
 // would free less than a quarter, all are to go.
 fn score_limit(counts: &[u32; SCORES], full: bool) -> u32 {
-    let all = counts.iter().fold(0u32, |sum, count| sum.saturating_add(*count));
+    let all = counts
+        .iter()
+        .fold(0u32, |sum, count| sum.saturating_add(*count));
     let mut kept: u32 = 0;
     for (score, count) in counts.iter().enumerate() {
         let more = kept.saturating_add(*count);

@@ -1,4 +1,4 @@
-use Rattle.std.proofs.Common.{not, false, MatchBool, sym, subst, rules, arith}
+use Rattle.std.proofs.Common.{not, false, MatchBool, sym, subst, rules}
 use Rattle.clauses.specs.Flat.{Well}
 use Rattle.clauses.proofs.Forms.{well_by_last, well_apart}
 use Rattle.clauses.proofs.reading.well_formed.Goals as goal
@@ -10,4 +10,4 @@ pub returns-else-not-contains : goal.returns-else-not-contains
 returns-else-not-contains c =
     let one = c.if-not-contains.ensures in
     subst (λ b. MatchBool (not b) (Well false c.args.clauses.now) (Well false c.args.clauses.now → ⊥)) (sym c.if-not-contains.false)
-        (λ h. well_apart false _ h one.cases.0 one.cases.1 (search rules))
+    (λ h. well_apart false _ h one.cases.0 one.cases.1 (search rules))

@@ -37,7 +37,7 @@ pub returns-in-None-unit : goal.returns-in-None-unit
 returns-in-None-unit c =
     let all : c.loop-code.code-index ≡ length c.args.literals.now = omega arith in
     looked_clash c.args.clauses.now c.args.values.now c.args.literals.now 0 (length c.args.literals.now) _ c.requires.own c.requires.clause
-        (subst (λ k. Looked c.args.values.now c.args.literals.now 0 k (code c.loop-code.unit)) all c.loop-code.invariant.0) (ap code c.in-None-unit.is)
+    (subst (λ k. Looked c.args.values.now c.args.literals.now 0 k (code c.loop-code.unit)) all c.loop-code.invariant.0) (ap code c.in-None-unit.is)
 
 pub returns-in-Some-unit : goal.returns-in-Some-unit
 returns-in-Some-unit c =
@@ -45,4 +45,4 @@ returns-in-Some-unit c =
     let lit = subst (λ o. IfSome o (λ x. 2 ≤ x.0)) c.in-Some-unit.is c.loop-code.invariant.1 in
     let looked = subst (λ k. Looked c.args.values.now c.args.literals.now 0 k (code c.loop-code.unit)) all c.loop-code.invariant.0 in
     looked_forced c.args.clauses.now c.args.values.now c.args.literals.now 0 (length c.args.literals.now) _ c.requires.own c.requires.clause
-        (subst (Looked c.args.values.now c.args.literals.now 0 (length c.args.literals.now)) (ap code c.in-Some-unit.is) looked) (λ z. omega arith)
+    (subst (Looked c.args.values.now c.args.literals.now 0 (length c.args.literals.now)) (ap code c.in-Some-unit.is) looked) (λ z. omega arith)

@@ -1,4 +1,3 @@
-use Rattle.std.proofs.Common.{length, arith}
 use Rattle.kernel.proofs.Trails.{falls}
 use Rattle.kernel.proofs.plain.search_plain.Goals as goal
 

@@ -1,4 +1,4 @@
-use Rattle.std.proofs.Common.{arith, rules}
+use Rattle.std.proofs.Common.{arith}
 use Rattle.kernel.proofs.Trails.{popped_back}
 use Rattle.kernel.proofs.trail.cut.Goals as goal
 

@@ -7,7 +7,7 @@ pub returns-in_err-formula : goal.returns-in_err-formula
 returns-in_err-formula c =
     let e : c.from_residual.result ≡ Err c.in_err-formula.field-0.0 = search rules in
     subst (SolvedPost c.args.clauses.now (length c.args.work.now) c.args.model.now c.args.model.now) (sym e)
-        (refused _ _ _ _ c.if-not-enough_room.ensures _ c.in_err-formula.ensures refl)
+    (refused _ _ _ _ c.if-not-enough_room.ensures _ c.in_err-formula.ensures refl)
 
 pub returns-then-clauses-lt-MOST_NUMBERS : goal.returns-then-clauses-lt-MOST_NUMBERS
 returns-then-clauses-lt-MOST_NUMBERS c =

@@ -1,4 +1,4 @@
-use Rattle.std.proofs.Common.{◌≡◌, ◌<◌, ◌+◌, ◌-◌, ◌∙◌, length, take, drop, ap, sym, subst, arith, rules}
+use Rattle.std.proofs.Common.{◌≡◌, ◌+◌, ◌-◌, ◌∙◌, take, drop, ap, sym, subst, arith, rules}
 use Rattle.kernel.specs.Arena.{Stored, Header, Follows, size}
 use Rattle.kernel.proofs.Arenas.{part_length, part_follows}
 use Rattle.kernel.proofs.arena.Arena.clause.Goals as goal
@@ -19,8 +19,7 @@ overflow_add-end-2 c =
 pub returns : goal.returns
 returns c =
     let header = subst (λ (a : Stored). Header a.words c.args.c) (sym c.self.view_is) c.if-not-is_header.ensures in
-    let long : c.args.c + 1 + c.clause_length.result - (c.args.c + 1) ≡ size c.self.inside.words.now c.args.c = omega (arith, c.clause_length.ensures ∙ ap (λ (a : Stored). size a.words c.args.c) (sym c.self.view_is)) in
-    (
+    let long : c.args.c + 1 + c.clause_length.result - (c.args.c + 1) ≡ size c.self.inside.words.now c.args.c = omega (arith, c.clause_length.ensures ∙ ap (λ (a : Stored). size a.words c.args.c) (sym c.self.view_is)) in (
       c.if-not-is_header.ensures,
       part_length _ _ _ _ _ _ _ c.self.invariant header long ∙ long ∙ ap (λ (a : Stored). size a.words c.args.c) c.self.view_is,
       subst (λ (a : Stored). Follows a.clauses a.variables (take (c.args.c + 1 + c.clause_length.result - (c.args.c + 1)) (drop (c.args.c + 1) c.self.inside.words.now))) c.self.view_is (part_follows _ _ _ _ _ _ _ c.self.invariant header long),

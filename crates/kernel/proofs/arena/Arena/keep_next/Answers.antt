@@ -1,5 +1,5 @@
-use Rattle.std.proofs.Common.{◌≡◌, ◌+◌, ◌-◌, ◌∙◌, length, get_or, set, ap, sym, subst, arith, length-set, get_or-set_same}
-use Rattle.kernel.specs.Arena.{Stored, Clause, Header, head, size}
+use Rattle.std.proofs.Common.{◌≡◌, ◌+◌, ◌-◌, ◌∙◌, get_or, set, ap, sym, subst, arith, length-set, get_or-set_same}
+use Rattle.kernel.specs.Arena.{Stored, Clause, Header, size}
 use Rattle.kernel.proofs.Arenas.{dropped_as}
 use Rattle.kernel.proofs.Storing.{moved_to, dropped_clause}
 use Rattle.kernel.proofs.arena.Arena.keep_next.Goals as goal
@@ -21,4 +21,4 @@ returns-clause-header c =
     let below = header.below in
     let long = c.copy_within.ensures.len ∙ length-set c.self.inside.words.now c.self.inside.high 0 in
     subst (λ (a : Stored). get_or (set c.copy_within.new.self c.self.inside.low (get_or c.self.inside.words.now c.self.inside.high 0)) a.low 0 ≡ get_or a.words a.high 0) c.self.view_is
-        (get_or-set_same c.copy_within.new.self c.self.inside.low (get_or c.self.inside.words.now c.self.inside.high 0) 0 (omega arith))
+    (get_or-set_same c.copy_within.new.self c.self.inside.low (get_or c.self.inside.words.now c.self.inside.high 0) 0 (omega arith))

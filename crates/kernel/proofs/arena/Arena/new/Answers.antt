@@ -1,4 +1,4 @@
-use Rattle.std.proofs.Common.{◌+◌, ◌-◌, length, take, drop, sym, ◌∙◌, refl, ap, subst, arith, length-drop}
+use Rattle.std.proofs.Common.{◌-◌, take, drop, sym, ◌∙◌, refl, subst, arith, length-drop}
 use Rattle.std.proofs.lemmas.List.{length-take-le}
 use Rattle.kernel.specs.Arena.{Follows}
 use Rattle.kernel.proofs.Loading.{loaded_none, loaded_more, loaded_next, reading_clause}
@@ -15,7 +15,7 @@ store-requires-clause-clause c =
     let clause : Follows c.args.clauses.now c.args.variables (take (c.loop-i.i - c.loop-i.start) (drop c.loop-i.start c.args.clauses.now)) =
     reading_clause _ _ _ c.loop-i-test.true so_far.reading c.args.variables _ c.if-x-eq0.true c.requires.well c.requires.within c.requires.small refl in
     subst (λ ws. Follows ws c.loop-i.arena.variables (take (c.loop-i.i - c.loop-i.start) (drop c.loop-i.start c.args.clauses.now))) (sym so_far.clauses)
-        (subst (λ m. Follows c.args.clauses.now m (take (c.loop-i.i - c.loop-i.start) (drop c.loop-i.start c.args.clauses.now))) (sym so_far.variables) clause)
+    (subst (λ m. Follows c.args.clauses.now m (take (c.loop-i.i - c.loop-i.start) (drop c.loop-i.start c.args.clauses.now))) (sym so_far.variables) clause)
 
 pub loop-i-preserved : goal.loop-i-preserved
 loop-i-preserved c =

@@ -13,4 +13,4 @@ invariant_of-self c =
     let inside : low + 1 + n ≤ length c.self.inside.words.now = omega arith in
     let long : n ≡ low + 1 + n - (low + 1) = omega arith in
     rw c.copy_from_slice.ensures.after (stored _ _ _ c.args.literals.now _ _ _ 0 _ c.self.invariant follows room
-        (length_put _ _ _ _ inside long) (storing_put _ _ _ _ _ _ _ c.self.invariant follows room long))
+    (length_put _ _ _ _ inside long) (storing_put _ _ _ _ _ _ _ c.self.invariant follows room long))

@@ -1,6 +1,6 @@
 use Rattle.std.proofs.Common.{◌≤◌, ◌+◌, sym, subst}
 use Rattle.kernel.specs.Arena.{Stored, Header, size}
-use Rattle.kernel.proofs.Swapping.{exchanged, exchanged_header}
+use Rattle.kernel.proofs.Swapping.{exchanged}
 use Rattle.kernel.proofs.arena.Arena.swap_literals.Goals as goal
 
 pub invariant_of-self : goal.invariant_of-self

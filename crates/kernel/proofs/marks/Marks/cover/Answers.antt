@@ -1,4 +1,4 @@
-use Rattle.std.proofs.Common.{◌≡◌, ◌<◌, ◌/◌, ◌∙◌, length, get_or, set, sym, ap, subst, arith, rules}
+use Rattle.std.proofs.Common.{◌≡◌, ◌/◌, ◌∙◌, length, get_or, set, ap, subst, arith, rules}
 use Rattle.kernel.specs.declared.marks.Marks.TheInside.{Inside}
 use Rattle.kernel.specs.Arena.{Word}
 use Rattle.kernel.specs.Trail.{False}

@@ -1,7 +1,6 @@
-use Rattle.std.proofs.Common.{◌≡◌, ◌<◌, ◌-◌, ◌/◌, ◌∙◌, List, ℕ, length, get_or, set, sym, ap, subst, arith, rules}
-use Rattle.clauses.specs.Flat.{lit_truth}
-use Rattle.kernel.specs.Resolve.{Blamed, Counts}
-use Rattle.kernel.proofs.Blaming.{unmarked, unmarked_left, unmarked_counted}
+use Rattle.std.proofs.Common.{sym, subst, arith}
+use Rattle.kernel.specs.Resolve.{Blamed}
+use Rattle.kernel.proofs.Blaming.{unmarked_left, unmarked_counted}
 use Rattle.kernel.proofs.marks.Marks.drop_level_zero.Goals as goal
 
 pub overflow_sub-self : goal.overflow_sub-self

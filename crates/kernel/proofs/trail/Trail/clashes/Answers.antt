@@ -1,4 +1,4 @@
-use Rattle.std.proofs.Common.{◌≡◌, ◌<◌, ◌/◌, length, get_or, sym, ap, subst, arith, rules}
+use Rattle.std.proofs.Common.{◌<◌, ◌/◌, length, get_or, sym, subst, rules}
 use Rattle.kernel.specs.Trail.{Own, Trailed}
 use Rattle.kernel.proofs.Scans.{Scan, not_false, scan_end, scan_open, scan_false}
 use Rattle.kernel.proofs.Trails.{own_values}

@@ -1,5 +1,5 @@
-use Rattle.std.proofs.Common.{ℕ, refl, sym, subst}
-use Rattle.kernel.specs.Trail.{Forced, Further, Trailed}
+use Rattle.std.proofs.Common.{refl, sym, subst}
+use Rattle.kernel.specs.Trail.{Forced, Trailed}
 use Rattle.kernel.proofs.Trails.{forced_entails, pushed_state, pushed_more}
 use Rattle.kernel.proofs.trail.Trail.imply.Goals as goal
 

@@ -1,4 +1,4 @@
-use Rattle.std.proofs.Common.{arith, rules, subst}
+use Rattle.std.proofs.Common.{arith, subst}
 use Rattle.kernel.specs.Trail.{Trailed, Further}
 use Rattle.solver.proofs.Turning.{turned_over, turned_further}
 use Rattle.solver.proofs.solver.Solver.choose.Goals as goal
