@@ -2,12 +2,12 @@
 
 // The word at a place, or 0.
 pub(crate) fn get(words: &[u32], at: usize) -> u32 {
-    if at < words.len() { words[at] } else { 0 }
+    words.get(at).copied().unwrap_or(0)
 }
 
 // Writes a word at a place, if there is one.
 pub(crate) fn put(words: &mut [u32], at: usize, word: u32) {
-    if at < words.len() {
-        words[at] = word;
+    if let Some(place) = words.get_mut(at) {
+        *place = word;
     }
 }

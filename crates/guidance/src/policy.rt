@@ -26,6 +26,11 @@ pub struct Policy {
     fallbacks: Fallbacks,
 }
 
+// One more, as far as the number goes.
+fn count(counter: &mut u32) {
+    *counter = counter.saturating_add(1);
+}
+
 impl Policy {
     pub fn new() -> Policy {
         Policy {
@@ -42,9 +47,9 @@ impl Policy {
 
     // A clause was learned from a conflict.
     pub fn note_learned(&mut self) {
-        self.conflicts = self.conflicts.saturating_add(1);
-        self.learned = self.learned.saturating_add(1);
-        self.fresh = self.fresh.saturating_add(1);
+        count(&mut self.conflicts);
+        count(&mut self.learned);
+        count(&mut self.fresh);
     }
 
     // There was no room for a clause that was learned.
@@ -92,15 +97,15 @@ impl Policy {
     }
 
     pub fn note_missed_conflict(&mut self) {
-        self.fallbacks.missed_conflicts = self.fallbacks.missed_conflicts.saturating_add(1);
+        count(&mut self.fallbacks.missed_conflicts);
     }
 
     pub fn note_failed_analysis(&mut self) {
-        self.fallbacks.failed_analyses = self.fallbacks.failed_analyses.saturating_add(1);
+        count(&mut self.fallbacks.failed_analyses);
     }
 
     pub fn note_lost_variable(&mut self) {
-        self.fallbacks.lost_variables = self.fallbacks.lost_variables.saturating_add(1);
+        count(&mut self.fallbacks.lost_variables);
     }
 
     pub fn fallbacks(&self) -> Fallbacks {

@@ -3,18 +3,10 @@ use Rattle.std.proofs.Common.{◌≡◌, ℕ, zero, suc, ◌+◌, ◌-◌, ◌<�
 use Rattle.std.proofs.lemmas.List.{drop_more, length-take-le, get_or-take, get_or-drop}
 use Rattle.std.proofs.lemmas.Bool.{or_cases, cases_eq, true≢false}
 use Rattle.clauses.specs.Flat.{lit_truth, Meets, Model, Well, Within}
+use Rattle.clauses.proofs.Forms.{well_literal}
 use Rattle.kernel.specs.Arena.{Has, Clause, Stored}
 use Rattle.kernel.proofs.Scans.{lit_on, end_on}
 use Rattle.kernel.proofs.Arenas.{clause_moved}
-
--- a word that is not 0 is a literal
-pub well_two : (b : Bool) (ws : List ℕ) → Well b ws → (k : ℕ) → k < length ws → (get_or ws k 0 ≡ 0 → ⊥) → 2 ≤ get_or ws k 0
-well_two b [] h k l f = absurd (omega arith)
-well_two b (zero ∷ ws) h zero l f = absurd (f refl)
-well_two b (zero ∷ ws) h (suc k) l f = well_two false ws h k (omega arith) f
-well_two b (suc zero ∷ ws) h k l f = absurd h
-well_two b (suc (suc x) ∷ ws) h zero l f = omega arith
-well_two b (suc (suc x) ∷ ws) h (suc k) l f = well_two true ws h k (omega arith) f
 
 -- the words from start to i are literals of a clause
 pub record Reading (ws : List ℕ) (start i : ℕ) : Type 0 where
@@ -68,7 +60,7 @@ module _ (ws : List ℕ) (start i : ℕ) (l : i < length ws) (was : Reading ws s
       subst (Clause ws part m 0) (sym long) (clause_moved ws ws part m start 0 (i - start) same (record {
         words = λ k b.
             let at : start + k < length ws = omega arith in
-            let two = well_two false ws well (start + k) at (was.lits (start + k) (omega arith) (omega arith)) in
+            let two = well_literal false ws well (start + k) at (was.lits (start + k) (omega arith) (omega arith)) in
             let half = win (start + k) at in
             record { lit = two; half = half; low = omega (arith, two, half) };
         follows = reading_has z;

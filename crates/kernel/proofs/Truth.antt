@@ -1,14 +1,8 @@
 -- The truth of two literals of one variable.
 use Rattle.std.proofs.Common.{◌≡◌, ℕ, ◌-◌, ◌/◌, ◌%◌, Bool, true, false, not, sym, refl, ap, ◌∙◌, ⊎_elim, arith}
 use Rattle.std.proofs.lemmas.Bool.{eq-eqb, ne_eqb, cases_eq}
-use Rattle.clauses.specs.Clauses.{signed}
 use Rattle.clauses.specs.Flat.{lit_truth}
-
-pub even_truth : (s : ℕ → Bool) (x : ℕ) → x % 2 ≡ 0 → lit_truth s x ≡ s (x / 2 - 1)
-even_truth s x h = ap (λ b. signed b (s (x / 2 - 1))) (eq-eqb (x % 2) 0 h)
-
-pub odd_truth : (s : ℕ → Bool) (x : ℕ) → (x % 2 ≡ 0 → ⊥) → lit_truth s x ≡ not (s (x / 2 - 1))
-odd_truth s x h = ap (λ b. signed b (s (x / 2 - 1))) (ne_eqb (x % 2) 0 h)
+use Rattle.clauses.proofs.Truth.{even_truth, odd_truth}
 
 -- of two literals of one variable one is true
 pub opposite : (s : ℕ → Bool) (x y : ℕ) → x / 2 ≡ y / 2 → (x ≡ y → ⊥) → lit_truth s x ≡ not (lit_truth s y)

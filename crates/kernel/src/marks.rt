@@ -4,7 +4,7 @@
 // may leave it. A clause of the negations of all that is marked then follows, and may be stored. What
 // is to be resolved, and when to stop, is for the caller to choose: where a check fails, nothing was
 // learned, and no harm is done.
-ghost use Rattle.std.specs.Prelude.{◌≡◌, ◌≢◌, ℕ, ◌/◌, ◌<◌, ◌↔◌, false, T, length, IfSome, IsTrue, slice_index};
+ghost use Rattle.std.specs.Prelude.{◌≡◌, ◌≢◌, ℕ, ◌/◌, ◌<◌, ◌↔◌, false, T, length, IfSome, IsTrue, slice_index, slice_set};
 ghost use Rattle.kernel.specs.Arena.{Follows};
 ghost use Rattle.kernel.specs.Resolve.{Blamed, Counts, Covered, Due};
 ghost use Rattle.kernel.specs.Trail.{NoDecision};
@@ -33,10 +33,7 @@ impl<'a> Model for Marks<'a> {
 
 // Whether a variable's place on the trail is `from` or after it, by what a hint says.
 fn stands_from(places: &[u32], h: usize, from: usize) -> bool {
-    match places.get(h) {
-        Some(place) => *place as usize >= from,
-        None => false,
-    }
+    places.get(h).is_some_and(|place| *place as usize >= from)
 }
 
 // Whether y is a literal of the variable of `resolved`, if that is there.
@@ -83,10 +80,7 @@ impl Marks<'_> {
     pub fn contains(&self, v: Variable) -> bool
         ensures { IsTrue result ↔ (slice_index self.now v.0 ≢ 0) }
     {
-        match self.seen.get(v.index()) {
-            Some(mark) => *mark != 0,
-            None => false,
-        }
+        self.seen.get(v.index()).is_some_and(|mark| *mark != 0)
     }
 
     // Marks the variables of a clause in the place of `resolved`, a marked value that the clause has;
@@ -137,7 +131,8 @@ impl Marks<'_> {
         requires first { NoDecision trail.now.kinds first }
         requires place { p < first }
         requires blamed { Blamed trail.now.clauses trail.now.values self.old }
-        ensures { Blamed trail.now.clauses trail.now.values self.new }
+        ensures blamed { Blamed trail.now.clauses trail.now.values self.new }
+        ensures cleared { self.new ≡ slice_set self.old (slice_index trail.now.literals p / 2) 0 }
     {
         let h = trail.settled(first, p).variable().index();
         if self.seen[h] != 0 {

@@ -16,6 +16,7 @@ use crate::look::{Look, examine};
 use clauses::Literal;
 use std::marker::Model;
 
+// The memory is lent words, so a value that is not set and a decision are words too, 0.
 #[derive(Drop)]
 pub struct Trail<'a> {
     pub(crate) clauses: &'a [u32],
@@ -146,6 +147,7 @@ impl Trail<'_> {
     pub(crate) fn settled(&self, first: usize, p: usize) -> Literal
         requires first { NoDecision self.now.kinds first }
         requires place { p < first }
+        ensures literal { result.0 ≡ slice_index self.now.literals p }
         ensures set { IsSet self.now.values result.0 }
         ensures settled { (s : ℕ → Bool) → Model s self.now.clauses → lit_truth s result.0 ≡ true }
     {

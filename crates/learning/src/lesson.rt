@@ -1,5 +1,6 @@
 // Learning: the clause of the negations of all that is to blame, stored in the arena.
 ghost use Rattle.std.specs.Prelude.{◌≡◌, ◌≤◌, ◌<◌, length, IfSome};
+ghost use Rattle.kernel.specs.Arena.{Header};
 ghost use Rattle.kernel.specs.Resolve.{Blamed};
 
 use crate::propagation::Conflict;
@@ -27,7 +28,7 @@ struct Collected {
 }
 
 impl Search<'_> {
-    // Writes the negations of the marked literals, the last on the trail first.
+    // Writes the negations of the marked literals, the last on the trail first, into lent memory.
     fn collect(&mut self) -> Collected
         ensures count { result.count ≤ length self.new.literals.now }
         ensures trail { self.new.trail ≡ self.old.trail }
@@ -90,6 +91,7 @@ impl Search<'_> {
     // Learns a clause from a conflict; none if nothing was learned or there is no room.
     pub fn learn(&mut self, conflict: Conflict) -> Option<Lesson>
         ensures trail { self.new.trail ≡ self.old.trail }
+        ensures header { IfSome result (λ l. Header self.new.arena.words l.clause) }
         ensures keep { IfSome result (λ l. l.keep ≤ length self.new.trail.kinds) }
     {
         self.marks.clear();

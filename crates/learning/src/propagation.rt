@@ -42,6 +42,7 @@ impl Search<'_> {
         ensures conflict { IfErr result (λ _. Clash self.new.trail.clauses self.new.trail.values) }
     {
         let mut next = self.guide.lists.first(y);
+        // a list has no more places than the arena has words
         for _turn in 0..self.arena.len() {
             let Some(place) = next else {
                 break;
@@ -59,6 +60,7 @@ impl Search<'_> {
         ensures conflict { IfErr result (λ _. Clash self.new.trail.clauses self.new.trail.values) }
     {
         let mut place = self.guide.propagated;
+        // the trail grows while it is followed, so that no range gives the places
         while place < self.trail.len() {
             let y = self.trail.literal(place).negated();
             place += 1;

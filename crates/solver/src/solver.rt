@@ -71,10 +71,7 @@ impl Solver<'_> {
         ensures { Turned self.old.search.trail self.old.budget self.new.search.trail self.new.budget result }
     {
         let search = &mut self.search;
-        let keep = match search.trail.last_decision() {
-            Some(place) => place,
-            None => 0,
-        };
+        let keep = search.trail.last_decision().unwrap_or(0);
         search.guide.release(&search.trail, keep);
         search.guide.propagated = keep;
         if search.trail.flip() {
