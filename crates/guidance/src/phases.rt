@@ -42,7 +42,9 @@ impl Phases<'_> {
 
     // Whether a variable's literal stands on the trail before a place.
     pub fn stands_before(&self, v: Variable, place: usize) -> bool {
-        self.places.get(v.index()).is_some_and(|at| (*at as usize) < place)
+        self.places
+            .get(v.index())
+            .is_some_and(|at| (*at as usize) < place)
     }
 
     // The places of all variables on the trail.

@@ -125,6 +125,13 @@ impl Trail<'_> {
         self.values
     }
 
+    // The codes of the literals that are set, in their order.
+    pub fn literals(&self) -> &[u32]
+        ensures { result.now ≡ self.now.literals }
+    {
+        &self.literals[..self.len]
+    }
+
     // The literal at a place.
     pub fn literal(&self, p: usize) -> Literal
         requires { p < length self.now.kinds }

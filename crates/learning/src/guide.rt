@@ -29,8 +29,8 @@ impl Guide<'_> {
     // The literals of the trail from place `keep` on are about to be freed: their values are saved, and
     // their variables wait to be decided again.
     pub fn release(&mut self, trail: &Trail, keep: usize) {
-        for p in keep..trail.len() {
-            let x = trail.literal(p);
+        for code in trail.literals().iter().skip(keep) {
+            let x = Literal(*code);
             self.phases.save(x);
             self.order.insert(x.variable());
         }

@@ -67,12 +67,10 @@ impl Search<'_> {
     fn next_decision(&self, k: usize) -> usize
         ensures { result ≤ length self.now.trail.kinds }
     {
-        for p in k..self.trail.len() {
-            if self.trail.reason(p).is_none() {
-                return p;
-            }
-        }
-        self.trail.len()
+        let end = self.trail.len();
+        (k..end)
+            .find(|p| self.trail.reason(*p).is_none())
+            .unwrap_or(end)
     }
 
     // Marks what is to blame for the clause at c being false, made small; the last level begins at
