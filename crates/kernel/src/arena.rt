@@ -15,6 +15,21 @@ use std::marker::Model;
 // The least header.
 pub const HEADER: u32 = 0x8000_0000;
 
+// Whether a clause's header stands at c.
+pub fn is_header(words: &[u32], c: usize) -> bool
+    ensures { MatchBool result (Header words.now c) (Header words.now c → ⊥) }
+{
+    c < words.len() && words[c] >= HEADER
+}
+
+// How many literals the clause whose header stands at c has.
+pub fn clause_length(words: &[u32], c: usize) -> usize
+    requires { Header words.now c }
+    ensures { result ≡ size words.now c }
+{
+    (words[c] - HEADER) as usize
+}
+
 #[derive(Drop)]
 pub struct Arena<'a> {
     pub(crate) clauses: &'a [u32],
@@ -105,7 +120,7 @@ impl Arena<'_> {
     pub fn is_header(&self, c: usize) -> bool
         ensures { MatchBool result (Header self.now.words c) (Header self.now.words c → ⊥) }
     {
-        c < self.words.len() && self.words[c] >= HEADER
+        is_header(self.words, c)
     }
 
     // How many literals the clause whose header stands at c has.
@@ -113,8 +128,7 @@ impl Arena<'_> {
         requires { Header self.now.words c }
         ensures { result ≡ size self.now.words c }
     {
-        let words: &[u32] = self.words;
-        (words[c] - HEADER) as usize
+        clause_length(self.words, c)
     }
 
     // The literals of the clause whose header stands at c, if one does.

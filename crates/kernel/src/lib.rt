@@ -11,9 +11,9 @@ mod plain;
 mod scan;
 mod trail;
 
-pub use arena::{Arena, HEADER};
+pub use arena::{Arena, HEADER, clause_length, is_header};
 pub use hints::by_hints;
-pub use look::Look;
+pub use look::{Look, examine};
 pub use marks::Marks;
 pub use plain::search_plain;
-pub use trail::Trail;
+pub use trail::{Trail, is_false};

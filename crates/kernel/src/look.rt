@@ -15,7 +15,7 @@ pub enum Look {
 }
 
 // Looks at a clause.
-pub(crate) fn examine(clauses: &[u32], values: &[u32], literals: &[u32]) -> Look
+pub fn examine(clauses: &[u32], values: &[u32], literals: &[u32]) -> Look
     requires own { Own values.now }
     requires clause { Clause clauses.now literals.now (length values.now) 0 (length literals.now) }
     ensures { Looks clauses.now values.now result }

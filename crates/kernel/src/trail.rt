@@ -6,7 +6,7 @@
 // Every implied literal is true in each model in which the literals before it are. That is all that
 // is kept of reasons, so no clause that was used has to stay. A solver ends since each step makes
 // the trail's number to the base 3 grow: 2 for an implied literal, 1 for a decision, 0 for none.
-ghost use Rattle.std.specs.Prelude.{◌≡◌, ℕ, ◌+◌, ◌/◌, ◌<◌, ◌≤◌, ◌↔◌, [], length, MatchBool, MatchOption, IsNone, T, Bool, true, ◌≢◌, take, slice_index, slice_set};
+ghost use Rattle.std.specs.Prelude.{◌≡◌, ℕ, ◌+◌, ◌/◌, ◌<◌, ◌≤◌, ◌↔◌, ◌++◌, [], ◌∷◌, length, MatchBool, MatchOption, IsNone, T, Bool, true, ◌≢◌, take, slice_index, slice_set};
 ghost use Rattle.clauses.specs.Flat.{lit_truth, Hopeless, Model, Within};
 ghost use Rattle.kernel.specs.Arena.{Follows};
 ghost use Rattle.kernel.specs.Looks.{Looks};
@@ -38,7 +38,7 @@ impl<'a> Model for Trail<'a> {
 }
 
 // Whether a literal is false.
-pub(crate) fn is_false(values: &[u32], x: Literal) -> bool
+pub fn is_false(values: &[u32], x: Literal) -> bool
     requires { x.0 / 2 < length values.now }
     ensures { MatchBool result (False values.now x.0) (False values.now x.0 → ⊥) }
 {
@@ -217,7 +217,9 @@ impl Trail<'_> {
     // forces it.
     pub fn imply(&mut self, x: Literal, reason: usize)
         requires { Forced self.old.clauses self.old.values x.0 }
-        ensures { Further self.old self.new }
+        ensures further { Further self.old self.new }
+        ensures literals { self.new.literals ≡ self.old.literals ++ x.0 ∷ [] }
+        ensures count { length self.new.kinds ≡ length self.old.kinds + 1 }
     {
         let kind = if reason < 0xffff_ffff {
             reason as u32 + 1
@@ -232,7 +234,9 @@ impl Trail<'_> {
     // Sets a literal by decision.
     pub fn decide(&mut self, x: Literal)
         requires { Free self.old.values x.0 }
-        ensures { Further self.old self.new }
+        ensures further { Further self.old self.new }
+        ensures literals { self.new.literals ≡ self.old.literals ++ x.0 ∷ [] }
+        ensures count { length self.new.kinds ≡ length self.old.kinds + 1 }
     {
         let n = self.len;
         push(self.values, self.literals, self.kinds, n, x, 0);

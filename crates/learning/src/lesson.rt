@@ -1,5 +1,5 @@
 // Learning: the clause of the negations of all that is to blame, stored in the arena.
-ghost use Rattle.std.specs.Prelude.{◌≡◌, ◌≤◌, ◌<◌, length, IfSome};
+ghost use Rattle.std.specs.Prelude.{◌≡◌, ℕ, ◌≤◌, ◌<◌, length, IfSome, slice_index};
 ghost use Rattle.kernel.specs.Arena.{Header};
 ghost use Rattle.kernel.specs.Resolve.{Blamed};
 
@@ -86,13 +86,12 @@ impl Search<'_> {
         Some(())
     }
 
-    // Learns a clause from a conflict; none if nothing was learned or there is no room.
-    pub fn learn(&mut self, conflict: Conflict) -> Option<Lesson>
+    // Derives a clause from a conflict and stores it; none if that led nowhere or there is no room.
+    fn derive(&mut self, conflict: Conflict) -> Option<Lesson>
         ensures trail { self.new.trail ≡ self.old.trail }
         ensures header { IfSome result (λ l. Header self.new.arena.words l.clause) }
         ensures keep { IfSome result (λ l. l.keep ≤ length self.new.trail.kinds) }
     {
-        self.marks.clear();
         let level = self.trail.last_decision()?;
         if self.analyze(conflict.0, level).is_none() {
             self.guide.policy.note_failed_analysis();
@@ -115,11 +114,25 @@ impl Search<'_> {
         Some(Lesson { clause, keep })
     }
 
+    // Learns a clause from a conflict; none if nothing was learned. No mark is left.
+    pub fn learn(&mut self, conflict: Conflict) -> Option<Lesson>
+        ensures trail { self.new.trail ≡ self.old.trail }
+        ensures header { IfSome result (λ l. Header self.new.arena.words l.clause) }
+        ensures keep { IfSome result (λ l. l.keep ≤ length self.new.trail.kinds) }
+        ensures clean { (k : ℕ) → k < length self.new.marks → slice_index self.new.marks k ≡ 0 }
+    {
+        let lesson = self.derive(conflict);
+        self.marks.clear();
+        lesson
+    }
+
     // Goes back to the first literals that a lesson keeps, and sets what its clause then forces.
     pub fn jump(&mut self, lesson: Lesson)
         requires { lesson.keep ≤ length self.old.trail.kinds }
         ensures clauses { self.new.trail.clauses ≡ self.old.trail.clauses }
         ensures long { length self.new.trail.values ≡ length self.old.trail.values }
+        ensures arena { self.new.arena ≡ self.old.arena }
+        ensures marks { self.new.marks ≡ self.old.marks }
     {
         self.guide.release(&self.trail, lesson.keep);
         self.guide.propagated = lesson.keep;

@@ -5,7 +5,7 @@
 // of the trail and the clauses alone: the trail grows by implied literals, and a reported conflict
 // means that no model agrees with the values. That nothing was missed is no part of it, since the
 // search looks at every given clause before it says that they are met.
-ghost use Rattle.std.specs.Prelude.{IfErr};
+ghost use Rattle.std.specs.Prelude.{◌≡◌, IfErr};
 ghost use Rattle.kernel.specs.Trail.{Clash, Went};
 
 use crate::search::Search;
@@ -20,6 +20,8 @@ impl Search<'_> {
     // Looks at the clause at c, if there is one, and sets the literal that it forces.
     fn visit(&mut self, c: usize) -> Result<(), Conflict>
         ensures went { Went self.old.trail self.new.trail }
+        ensures arena { self.new.arena ≡ self.old.arena }
+        ensures marks { self.new.marks ≡ self.old.marks }
         ensures conflict { IfErr result (λ _. Clash self.new.trail.clauses self.new.trail.values) }
     {
         let Some(literals) = self.arena.clause(c) else {
@@ -39,6 +41,8 @@ impl Search<'_> {
     // Looks at the clauses in which y stands, which has become false.
     fn visit_occurrences(&mut self, y: Literal) -> Result<(), Conflict>
         ensures went { Went self.old.trail self.new.trail }
+        ensures arena { self.new.arena ≡ self.old.arena }
+        ensures marks { self.new.marks ≡ self.old.marks }
         ensures conflict { IfErr result (λ _. Clash self.new.trail.clauses self.new.trail.values) }
     {
         let mut next = self.guide.lists.first(y);
@@ -57,6 +61,8 @@ impl Search<'_> {
     // Follows what the literals force that were not propagated yet.
     pub fn propagate(&mut self) -> Result<(), Conflict>
         ensures went { Went self.old.trail self.new.trail }
+        ensures arena { self.new.arena ≡ self.old.arena }
+        ensures marks { self.new.marks ≡ self.old.marks }
         ensures conflict { IfErr result (λ _. Clash self.new.trail.clauses self.new.trail.values) }
     {
         let mut place = self.guide.propagated;
@@ -73,6 +79,8 @@ impl Search<'_> {
     // Looks at every clause once, for those that force a literal with nothing set.
     pub fn settle(&mut self) -> Result<(), Conflict>
         ensures went { Went self.old.trail self.new.trail }
+        ensures arena { self.new.arena ≡ self.old.arena }
+        ensures marks { self.new.marks ≡ self.old.marks }
         ensures conflict { IfErr result (λ _. Clash self.new.trail.clauses self.new.trail.values) }
     {
         for c in 0..self.arena.len() {

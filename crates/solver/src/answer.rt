@@ -44,7 +44,12 @@ pub fn find_model<T: From<bool> + Drop>(
     match answer {
         Answer::Never => Answer::Never,
         Answer::Met => {
-            write_model(formula, map, solver.search.trail.values(), model);
+            write_model(
+                formula.numbers,
+                map,
+                solver.search.trail.values(),
+                model,
+            );
             Answer::Met
         }
     }
@@ -84,7 +89,7 @@ fn solve_plain(formula: &Formula, model: &mut [u8], work: &mut [u32]) -> Answer
     if !search_plain(&mut trail) {
         return Answer::Never;
     }
-    write_model(formula, map, trail.values(), model);
+    write_model(formula.numbers, map, trail.values(), model);
     Answer::Met
 }
 

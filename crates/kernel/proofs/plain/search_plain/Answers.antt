@@ -5,4 +5,4 @@ pub turns-smaller-else-not-flip : goal.turns-smaller-else-not-flip
 turns-smaller-else-not-flip c = falls _ _ c.if-not-flip.ensures.turned
 
 pub turns-smaller : goal.turns-smaller
-turns-smaller c = falls _ _ c.decide.ensures
+turns-smaller c = falls _ _ c.decide.ensures.further
