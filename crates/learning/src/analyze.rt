@@ -14,6 +14,7 @@ impl Search<'_> {
     // The variables of the clause at c that are not marked yet take part in the conflict.
     fn bump(&mut self, c: usize)
         ensures trail { self.new.trail ≡ self.old.trail }
+        ensures arena { self.new.arena ≡ self.old.arena }
         ensures marks { self.new.marks ≡ self.old.marks }
     {
         if let Some(literals) = self.arena.clause(c) {
@@ -31,6 +32,7 @@ impl Search<'_> {
     ) -> Option<usize>
         requires { IfSome resolved (λ x. Due self.old.trail.clauses self.old.trail.values self.old.marks x.0) }
         ensures trail { self.new.trail ≡ self.old.trail }
+        ensures arena { self.new.arena ≡ self.old.arena }
         ensures blamed { IfSome result (λ _. Blamed self.new.trail.clauses self.new.trail.values self.new.marks) }
     {
         let literals = self.arena.clause(c)?;
@@ -43,6 +45,7 @@ impl Search<'_> {
     // point of the level that begins at place `level`, and gives the place of that.
     pub(crate) fn find_blame(&mut self, c: usize, level: usize) -> Option<usize>
         ensures trail { self.new.trail ≡ self.old.trail }
+        ensures arena { self.new.arena ≡ self.old.arena }
         ensures blamed { IfSome result (λ _. Blamed self.new.trail.clauses self.new.trail.values self.new.marks) }
     {
         self.bump(c);

@@ -32,6 +32,7 @@ impl Search<'_> {
     fn collect(&mut self) -> Collected
         ensures count { result.count ≤ length self.new.literals.now }
         ensures trail { self.new.trail ≡ self.old.trail }
+        ensures arena { self.new.arena ≡ self.old.arena }
         ensures marks { self.new.marks ≡ self.old.marks }
     {
         let mut found = Collected {
@@ -77,6 +78,7 @@ impl Search<'_> {
     // place `level`. None where that led nowhere.
     fn analyze(&mut self, c: usize, level: usize) -> Option<()>
         ensures trail { self.new.trail ≡ self.old.trail }
+        ensures arena { self.new.arena ≡ self.old.arena }
         ensures blamed { IfSome result (λ _. Blamed self.new.trail.clauses self.new.trail.values self.new.marks) }
     {
         let first = self.trail.first_decision();
@@ -89,7 +91,9 @@ impl Search<'_> {
     // Derives a clause from a conflict and stores it; none if that led nowhere or there is no room.
     fn derive(&mut self, conflict: Conflict) -> Option<Lesson>
         ensures trail { self.new.trail ≡ self.old.trail }
+        ensures place { IfSome result (λ l. l.clause ≡ self.old.arena.low) }
         ensures header { IfSome result (λ l. Header self.new.arena.words l.clause) }
+        ensures long { length self.new.arena.words ≡ length self.old.arena.words }
         ensures keep { IfSome result (λ l. l.keep ≤ length self.new.trail.kinds) }
     {
         let level = self.trail.last_decision()?;
@@ -117,7 +121,9 @@ impl Search<'_> {
     // Learns a clause from a conflict; none if nothing was learned. No mark is left.
     pub fn learn(&mut self, conflict: Conflict) -> Option<Lesson>
         ensures trail { self.new.trail ≡ self.old.trail }
+        ensures place { IfSome result (λ l. l.clause ≡ self.old.arena.low) }
         ensures header { IfSome result (λ l. Header self.new.arena.words l.clause) }
+        ensures long { length self.new.arena.words ≡ length self.old.arena.words }
         ensures keep { IfSome result (λ l. l.keep ≤ length self.new.trail.kinds) }
         ensures clean { (k : ℕ) → k < length self.new.marks → slice_index self.new.marks k ≡ 0 }
     {

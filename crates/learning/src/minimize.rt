@@ -28,6 +28,7 @@ impl Search<'_> {
     pub(crate) fn minimize(&mut self, top: usize, first: usize) -> Option<usize>
         requires { Blamed self.old.trail.clauses self.old.trail.values self.old.marks }
         ensures trail { self.new.trail ≡ self.old.trail }
+        ensures arena { self.new.arena ≡ self.old.arena }
         ensures blamed { IfSome result (λ _. Blamed self.new.trail.clauses self.new.trail.values self.new.marks) }
     {
         let end = self.trail.len();
@@ -54,6 +55,7 @@ impl Search<'_> {
         requires first { NoDecision self.old.trail.kinds first }
         requires blamed { Blamed self.old.trail.clauses self.old.trail.values self.old.marks }
         ensures trail { self.new.trail ≡ self.old.trail }
+        ensures arena { self.new.arena ≡ self.old.arena }
         ensures blamed { Blamed self.new.trail.clauses self.new.trail.values self.new.marks }
     {
         for p in (0..first).rev() {
