@@ -1,5 +1,5 @@
 -- Reading the given clauses one after another.
-use Rattle.std.proofs.Common.{◌≡◌, ℕ, zero, suc, ◌+◌, ◌-◌, ◌<◌, ◌≤◌, Bool, true, false, ◌||◌, List, [], ◌∷◌, length, get_or, take, drop, sym, refl, ap, ◌∙◌, subst, ⊎_elim, zero-add, arith, length-drop}
+use Rattle.std.proofs.Common.{◌≡◌, ℕ, suc, ◌+◌, ◌-◌, ◌<◌, ◌≤◌, Bool, true, false, ◌||◌, List, ◌∷◌, length, get_or, take, drop, sym, ap, ◌∙◌, subst, ⊎_elim, zero-add, arith, length-drop}
 use Rattle.std.proofs.lemmas.List.{drop_more, length-take-le, get_or-take, get_or-drop}
 use Rattle.std.proofs.lemmas.Bool.{or_cases, cases_eq, true≢false}
 use Rattle.clauses.specs.Flat.{lit_truth, Meets, Model, Well, Within}

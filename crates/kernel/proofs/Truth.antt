@@ -1,6 +1,6 @@
 -- The truth of two literals of one variable.
 use Rattle.std.proofs.Common.{◌≡◌, ℕ, ◌-◌, ◌/◌, ◌%◌, Bool, true, false, not, sym, refl, ap, ◌∙◌, ⊎_elim, arith}
-use Rattle.std.proofs.lemmas.Bool.{eq-eqb, ne_eqb, cases_eq}
+use Rattle.std.proofs.lemmas.Bool.{cases_eq}
 use Rattle.clauses.specs.Flat.{lit_truth}
 use Rattle.clauses.proofs.Truth.{even_truth, odd_truth}
 
