@@ -23,7 +23,8 @@ pub(crate) fn is_blank(c: u8) -> bool
     c == b' ' || c == b'\n'
 }
 
-// How many blanks a text begins with.
+// How many blanks a text begins with. One function for this and the next would take the test as a
+// closure, of which its contract would have to speak.
 fn blank_len(text: &[u8]) -> usize
     ensures within { result ≤ length text.now }
     ensures blanks { result ≡ prefix_len blank text.now }

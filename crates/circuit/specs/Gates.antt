@@ -52,10 +52,13 @@ abbrev pub xor_net : Literal → Literal → Net → Net × Literal
 xor_net a b n = wire_or (fold_xor a b) (gate (λ o. xor_rows o a b) n) n
 
 -- a literal or a smaller gate in place of a gate, or the gate
+abbrev pub smaller_net : Folded → Net → Net × Literal
+smaller_net (Wire l) n = (n, l)
+smaller_net (And x y) n = and_net x y n
+smaller_net (Or x y) n = or_net x y n
+
 abbrev pub smaller_or : Option Folded → Net × Literal → Net → Net × Literal
-smaller_or (Some (Wire l)) g n = (n, l)
-smaller_or (Some (And x y)) g n = and_net x y n
-smaller_or (Some (Or x y)) g n = or_net x y n
+smaller_or (Some f) g n = smaller_net f n
 smaller_or None g n = g
 
 abbrev pub majority_net : Literal → Literal → Literal → Net → Net × Literal

@@ -1,7 +1,7 @@
 // Gates, and what is left of them where an input is a constant or two inputs are alike.
 ghost use Rattle.std.specs.Prelude.{◌≡◌};
 ghost use Rattle.circuit.specs.Gates.{and_rows, xor_rows, majority_rows, choice_rows, gate};
-ghost use Rattle.circuit.specs.Gates.{fold_and, fold_xor, fold_majority, fold_choice, and_net, or_net, xor_net, majority_net, choice_net};
+ghost use Rattle.circuit.specs.Gates.{fold_and, fold_xor, fold_majority, fold_choice, smaller_net, and_net, or_net, xor_net, majority_net, choice_net};
 ghost use Rattle.circuit.specs.Built.{Fits, Wrote};
 
 use crate::builder::{Builder, HIGH, LOW};
@@ -85,6 +85,8 @@ fn fold_choice(s: Literal, a: Literal, b: Literal) -> Option<Folded>
     }
 }
 
+// The four gates differ in how many inputs and rows they have, so that one function would take a list of
+// rows of several lengths and say no more.
 impl Builder<'_> {
     fn and_gate(&mut self, a: Literal, b: Literal) -> Literal
         requires { Fits self.old (gate (λ o. and_rows o a b) self.old.net).0 }
@@ -193,6 +195,19 @@ impl Builder<'_> {
         }
     }
 
+    // The literal or the smaller gate that stands in place of a gate.
+    fn smaller(&mut self, folded: Folded) -> Literal
+        requires { Fits self.old (smaller_net folded self.old.net).0 }
+        ensures wrote { Wrote self.old self.new (smaller_net folded self.old.net).0 }
+        ensures output { result ≡ (smaller_net folded self.old.net).1 }
+    {
+        match folded {
+            Folded::Wire(wire) => wire,
+            Folded::And(x, y) => self.and(x, y),
+            Folded::Or(x, y) => self.or(x, y),
+        }
+    }
+
     // At least two of a, b and c.
     pub fn majority(&mut self, a: Literal, b: Literal, c: Literal) -> Literal
         requires { Fits self.old (majority_net a b c self.old.net).0 }
@@ -200,9 +215,7 @@ impl Builder<'_> {
         ensures output { result ≡ (majority_net a b c self.old.net).1 }
     {
         match fold_majority(a, b, c) {
-            Some(Folded::Wire(wire)) => wire,
-            Some(Folded::And(x, y)) => self.and(x, y),
-            Some(Folded::Or(x, y)) => self.or(x, y),
+            Some(folded) => self.smaller(folded),
             None => self.majority_gate(a, b, c),
         }
     }
@@ -214,9 +227,7 @@ impl Builder<'_> {
         ensures output { result ≡ (choice_net s a b self.old.net).1 }
     {
         match fold_choice(s, a, b) {
-            Some(Folded::Wire(wire)) => wire,
-            Some(Folded::And(x, y)) => self.and(x, y),
-            Some(Folded::Or(x, y)) => self.or(x, y),
+            Some(folded) => self.smaller(folded),
             None => self.choice_gate(s, a, b),
         }
     }

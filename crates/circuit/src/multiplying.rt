@@ -31,6 +31,7 @@ impl Builder<'_> {
         ensures over { result ≡ (row_net x y.now word.old low self.old.net).1.1 }
     {
         let mut over = LOW;
+        // by places, since a proof knows nothing of what is written through a zip with `iter_mut`
         for (i, bit) in y.iter().enumerate() {
             let sum = self.row_bit(x, *bit, word[i], over);
             word[i] = sum.sum;

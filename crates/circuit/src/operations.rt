@@ -16,6 +16,7 @@ use words::{BinaryOp, UnaryOp};
 pub fn inverted<const WIDTH: usize>(x: &[Literal; WIDTH]) -> [Literal; WIDTH]
     ensures { result ≡ inverted x.now }
 {
+    // `map`, tried, asks that the arrays fit in memory, which a word of any width can't show
     let mut word = [LOW; WIDTH];
     for (i, bit) in x.iter().enumerate() {
         word[i] = bit.negated();

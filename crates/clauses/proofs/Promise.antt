@@ -59,9 +59,6 @@ module _ (ws : List ℕ) (w : ℕ) (m m' : List ℕ) where
     small = (λ h. absurd (unwell_room ws w (length m) room unwell h), λ e. absurd (no_clauses_small e));
   }
 
-  pub small_work : w < 32 * length ws + (8 * length m + 4096) → m' ≡ m → SolvedPost ws w m m' (Err Small)
-  small_work little same = record { says = same; small = (λ _. refl, λ _. inl little) }
-
   pub small_model : Well false ws → Beyond ws (length m + 1) → m' ≡ m → SolvedPost ws w m m' (Err Small)
   small_model well beyond same =
       let p = well_parsed ws well in

@@ -30,9 +30,6 @@ value_true values x two e =
     agrees false = refl
 
 module _ (ws rs map names : List ℕ) (count : ℕ) (made : Renamed ws rs map names count) where
-  pub map_below : (n : ℕ) → n ≡ count + 1 → (v : ℕ) → get_or map v 0 < n
-  map_below n e v = omega (arith, made.inverse.number v)
-
   -- of the variables of ws by the values of their inside numbers
   pub signs_model : (values : List ℕ) → Model (value_sign values) rs → Model (written_sign map values) ws
   signs_model values h =

@@ -40,6 +40,7 @@ pub fn number_variables(
 {
     map.fill(0);
     let mut count = 0;
+    // by places, since nothing is known of what is written through a zip with `iter_mut`
     for (k, x) in formula.numbers.iter().enumerate() {
         renamed[k] = if *x == 0 {
             0

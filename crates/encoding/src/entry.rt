@@ -9,7 +9,8 @@ pub enum DivisionWord {
     Product,
 }
 
-// What an entry's word is, from the words of entries before it.
+// What an entry's word is, from the words of entries before it. There is no heap, so an entry names
+// them by their places.
 #[derive(Clone, Copy, PartialEq, Eq, Debug)]
 pub enum Entry {
     Any(usize),
@@ -23,7 +24,7 @@ pub enum Entry {
     Part(usize, DivisionWord),
 }
 
-// What fills the room for entries to come.
+// What fills the room for entries to come. A variant with data can't be the derived default.
 impl Default for Entry {
     fn default() -> Entry {
         Entry::Any(0)

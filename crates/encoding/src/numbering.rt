@@ -62,23 +62,20 @@ impl Table {
         ensures more { length self.new ≤ length self.old + 2 }
     {
         match op {
-            BinaryOp::Add => self.place(sorted(BinaryOp::Add, i, j)),
-            BinaryOp::Sub => self.place(Entry::Binary(BinaryOp::Sub, i, j)),
             BinaryOp::Mul => {
                 let product = self.product(i.min(j), i.max(j));
                 self.place(product)
             }
             BinaryOp::Udiv => self.divide(DivisionWord::Quotient, i, j),
             BinaryOp::Urem => self.divide(DivisionWord::Remainder, i, j),
-            BinaryOp::And => self.place(sorted(BinaryOp::And, i, j)),
-            BinaryOp::Or => self.place(sorted(BinaryOp::Or, i, j)),
-            BinaryOp::Xor => self.place(sorted(BinaryOp::Xor, i, j)),
-            BinaryOp::Shl => self.place(Entry::Binary(BinaryOp::Shl, i, j)),
-            BinaryOp::Lshr => self.place(Entry::Binary(BinaryOp::Lshr, i, j)),
-            BinaryOp::Ashr => self.place(Entry::Binary(BinaryOp::Ashr, i, j)),
-            BinaryOp::Comp => self.place(sorted(BinaryOp::Comp, i, j)),
-            BinaryOp::Ult => self.place(Entry::Binary(BinaryOp::Ult, i, j)),
-            BinaryOp::Slt => self.place(Entry::Binary(BinaryOp::Slt, i, j)),
+            BinaryOp::Add | BinaryOp::And | BinaryOp::Or | BinaryOp::Xor | BinaryOp::Comp =>
+                self.place(sorted(op, i, j)),
+            BinaryOp::Sub
+            | BinaryOp::Shl
+            | BinaryOp::Lshr
+            | BinaryOp::Ashr
+            | BinaryOp::Ult
+            | BinaryOp::Slt => self.place(Entry::Binary(op, i, j)),
         }
     }
 }

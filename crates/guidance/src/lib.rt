@@ -14,4 +14,4 @@ mod policy;
 pub use occurrences::Occurrences;
 pub use order::Order;
 pub use phases::Phases;
-pub use policy::{Fallbacks, Policy};
+pub use policy::{Fallback, Fallbacks, Policy};

@@ -3,6 +3,7 @@
 // Each place of the arena that holds a literal is a link of that literal's list: `next` has the place
 // after it in the list, or 0, and `owner` the place of its clause's header. No literal stands at
 // place 0, since a header does. At a header's own place `next` is free, and has the clause's score.
+// The memory is lent words, with no heap: so the lists are links by places, 0 for none.
 use crate::memory::{get, put};
 use clauses::Literal;
 
@@ -37,15 +38,21 @@ impl Occurrences<'_> {
 
     // Adds the literals of the clause at c.
     pub fn attach(&mut self, c: usize, literals: &[u32]) {
-        for (k, x) in literals.iter().enumerate() {
-            if c < 0x7fff_ffff && k < 0x7fff_ffff {
-                let p = c + 1 + k;
-                let head = *x as usize;
-                let old = get(self.heads, head);
-                put(self.next, p, old);
-                put(self.owner, p, c as u32);
-                put(self.heads, head, p as u32);
-            }
+        for (x, p) in literals.iter().zip(1..) {
+            self.link(c, p, *x as usize);
+        }
+    }
+
+    // Adds the literal at the p-th place after the header of the clause at c.
+    fn link(&mut self, c: usize, p: usize, head: usize) {
+        let Some(place) = c.checked_add(p) else {
+            return;
+        };
+        if let (Ok(owner), Ok(link)) = (u32::try_from(c), u32::try_from(place)) {
+            let old = get(self.heads, head);
+            put(self.next, place, old);
+            put(self.owner, place, owner);
+            put(self.heads, head, link);
         }
     }
 

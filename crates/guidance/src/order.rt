@@ -4,10 +4,12 @@
 // grows at each conflict, so that what happened lately counts most. Before the numbers get too large
 // all are made smaller alike. The variables wait in a binary heap; `slots` has each one's place in it,
 // from 1 on, or 0. Variables that are set may stay in the heap, and are passed over when they come out.
+// The memory is lent words, with no heap: so the heap is an array of its own, and 0 says none.
 use crate::memory::{get, put};
 use clauses::Variable;
 
-// The most levels that a heap of 32-bit numbers has.
+// The most levels that a heap of 32-bit numbers has: a bound for loops that go up or down, by which they
+// are seen to end.
 const LEVELS: u32 = 33;
 
 #[derive(Drop)]
@@ -66,22 +68,19 @@ impl Order<'_> {
         self.place(i, v);
     }
 
-    // The more active child of place i, or i where it has none.
-    fn child(&self, i: usize) -> usize {
-        if i >= 0x3fff_ffff {
-            return i;
-        }
-        let left = 2 * i + 1;
+    // The more active child of place i, if it has one.
+    fn child(&self, i: usize) -> Option<usize> {
+        let left = i.checked_mul(2)?.checked_add(1)?;
         if left >= self.len {
-            return i;
+            return None;
         }
         let right = left + 1;
         if right < self.len
             && self.activity(get(self.heap, right)) > self.activity(get(self.heap, left))
         {
-            return right;
+            return Some(right);
         }
-        left
+        Some(left)
     }
 
     // Moves the variable at the top down past those that are more active.
@@ -89,9 +88,11 @@ impl Order<'_> {
         let mut i = 0;
         let v = get(self.heap, 0);
         for _ in 0..LEVELS {
-            let child = self.child(i);
+            let Some(child) = self.child(i) else {
+                break;
+            };
             let below = get(self.heap, child);
-            if child == i || self.activity(below) <= self.activity(v) {
+            if self.activity(below) <= self.activity(v) {
                 break;
             }
             self.place(i, below);
@@ -115,11 +116,8 @@ impl Order<'_> {
 
     // Takes the most active variable out of the heap.
     pub fn pop(&mut self) -> Option<Variable> {
-        if self.len == 0 {
-            return None;
-        }
+        let rest = self.len.checked_sub(1)?;
         let best = get(self.heap, 0);
-        let rest = self.len - 1;
         let last = get(self.heap, rest);
         self.len = rest;
         put(self.slots, best as usize, 0);
@@ -133,8 +131,8 @@ impl Order<'_> {
     // Makes a variable more active.
     pub fn bump(&mut self, v: Variable) {
         let i = v.index();
-        if i < self.activities.len() {
-            self.activities[i] = self.activities[i].saturating_add(self.increment);
+        if let Some(activity) = self.activities.get_mut(i) {
+            *activity = activity.saturating_add(self.increment);
             let slot = get(self.slots, i);
             if slot > 0 {
                 self.rise(slot as usize - 1);

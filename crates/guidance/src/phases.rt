@@ -1,5 +1,5 @@
 // The value that each variable had last, to which it is set when it is decided again; and where it
-// stands on the trail.
+// stands on the trail. The memory is lent words, so no value yet is the word 0.
 use crate::memory::{get, put};
 use clauses::{Literal, Variable};
 
@@ -35,8 +35,8 @@ impl Phases<'_> {
 
     // A literal now stands at a place of the trail.
     pub fn note_place(&mut self, x: Literal, place: usize) {
-        if place < 0xffff_ffff {
-            put(self.places, x.variable().index(), place as u32);
+        if let Ok(place) = u32::try_from(place) {
+            put(self.places, x.variable().index(), place);
         }
     }
 

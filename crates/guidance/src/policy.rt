@@ -14,6 +14,13 @@ pub struct Fallbacks {
     pub lost_variables: u32,
 }
 
+#[derive(Clone, Copy, PartialEq, Eq, Debug)]
+pub enum Fallback {
+    MissedConflict,
+    FailedAnalysis,
+    LostVariable,
+}
+
 #[derive(Clone, Copy)]
 pub struct Policy {
     conflicts: u32,
@@ -96,16 +103,14 @@ impl Policy {
         self.full = false;
     }
 
-    pub fn note_missed_conflict(&mut self) {
-        count(&mut self.fallbacks.missed_conflicts);
-    }
-
-    pub fn note_failed_analysis(&mut self) {
-        count(&mut self.fallbacks.failed_analyses);
-    }
-
-    pub fn note_lost_variable(&mut self) {
-        count(&mut self.fallbacks.lost_variables);
+    // The search had to do without its guidance.
+    pub fn note(&mut self, fallback: Fallback) {
+        let counts = &mut self.fallbacks;
+        count(match fallback {
+            Fallback::MissedConflict => &mut counts.missed_conflicts,
+            Fallback::FailedAnalysis => &mut counts.failed_analyses,
+            Fallback::LostVariable => &mut counts.lost_variables,
+        });
     }
 
     pub fn fallbacks(&self) -> Fallbacks {

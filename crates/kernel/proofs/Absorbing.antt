@@ -75,27 +75,5 @@ module _ (ws values arena before seen : List ℕ) (i k x marks : ℕ) (own : Own
       let left = marks_left in
       omega (arith, zeros_free seen (x / 2) (omega (arith, due.fits, was.marked.long)) (was.keeps (x / 2) due.marked), length-set seen (x / 2) 0, was.marked.counted)
 
-  pub absorbed_core : Blamed ws values (set seen (x / 2) 0)
-  absorbed_core =
-      let h : ℕ = x / 2 in
-      record {
-        long = length-set seen h 0 ∙ was.marked.long;
-        core = λ s all m.
-            let has = cl.follows s m in
-            let y : ℕ = get_or arena (i + has.at) 0 in
-            let w = cl.words has.at has.below in
-            ⊎_elim
-            (λ e.
-            due.core s (λ j b ne. ⊎_elim
-            (λ q. ap (λ (p : ℕ). lit_truth s (get_or values p 0)) q ∙ ap (lit_truth s) due.set ∙ ap (lit_truth s) (sym e) ∙ has.holds)
-            (λ nq. all j b (λ z. was.keeps j ne (sym (get_or-set_other seen h j 0 0 nq) ∙ z)))
-            (cases_eq j h)) m)
-            (λ ne.
-            let f = was.false has.at has.below ne in
-            let up : lit_truth s (get_or values (y / 2) 0) ≡ true = all (y / 2) w.half (λ z. was.sees has.at has.below ne (sym (get_or-set_other seen h (y / 2) 0 0 (was.apart has.at has.below ne)) ∙ z)) in
-            true≢false (sym has.holds ∙ opposite_false s (get_or values (y / 2) 0) y (own (y / 2) w.half f.set) f.other up))
-            (cases_eq y x);
-      }
-
 pub absorbed_as : (values arena before seen seen' : List ℕ) (i k x marks marks' : ℕ) → seen' ≡ seen → marks' ≡ marks → Absorbing values arena before seen i k x marks → Absorbing values arena before seen' i k x marks'
 absorbed_as values arena before seen seen' i k x marks marks' es em h = subst (λ s. Absorbing values arena before s i k x marks') (sym es) (subst (λ m. Absorbing values arena before seen i k x m) (sym em) h)

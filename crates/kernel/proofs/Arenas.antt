@@ -40,17 +40,7 @@ module _ (ws arena : List ℕ) (m low high : ℕ) (ar : IsArena ws arena m low h
       }
 
   -- over one word
-  pub gap_skips : high < length arena → get_or arena high 0 < head → IsArena ws arena m low (high + 1)
-  gap_skips l h = gap_widens (high + 1) (omega arith) (omega arith) (λ p a b. subst (λ q. get_or arena q 0 < head) (omega arith) h)
-
   -- a reduction begins with an empty gap at the bottom
-  pub gap_opens : IsArena ws arena m 0 0
-  gap_opens = record {
-    order = omega arith;
-    fits = omega arith;
-    headed = λ i l h. let old = ar.headed i l h in record { within = old.within; apart = inr (omega arith); clause = old.clause };
-  }
-
   -- a header is cleared
   module _ (c : ℕ) (hd : Header arena c) where
     pub forgotten : IsArena ws (set arena c 0) m low high

@@ -29,12 +29,3 @@ module _ (ws values seen : List ℕ) (h marks : ℕ) (b : Blamed ws values seen)
   unmarked_counted =
       let left = unmarked_left in
       omega (arith, zeros_free seen h here on, length-set seen h 0, counted)
-
-  pub unmarked : ((s : ℕ → Bool) → Model s ws → lit_truth s (get_or values h 0) ≡ true) → Blamed ws values (set seen h 0)
-  unmarked true-in = record {
-    long = length-set seen h 0 ∙ b.long;
-    core = λ s all md. b.core s (λ k l ne. ⊎_elim
-        (λ e. ap (λ (j : ℕ). lit_truth s (get_or values j 0)) e ∙ true-in s md)
-        (λ nk. all k l (λ z. ne (sym (get_or-set_other seen h k 0 0 nk) ∙ z)))
-        (cases_eq k h)) md;
-  }

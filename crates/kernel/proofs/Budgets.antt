@@ -16,7 +16,3 @@ left_over t t' b e h =
 pub left_further : (t t' : Trailed) (b : ℕ) → Further t t' → left t' b < left t b
 left_further t t' b f =
     rw f.long (omega (arith, f.more, ap (λ (m : ℕ). rank m t'.kinds) f.long, rank_below (length t.values) t'.kinds))
-
-pub left_went : (t t' : Trailed) (b : ℕ) → Went t t' → left t' b ≤ left t b
-left_went t t' b w =
-    rw w.long (omega (arith, w.more, ap (λ (m : ℕ). rank m t'.kinds) w.long, rank_below (length t.values) t'.kinds))

@@ -59,12 +59,6 @@ module _ (ws vs : List ℕ) (i : ℕ) (b : Bool) (l : i < length ws) (was : Scan
   split : drop i ws ≡ get_or ws i 0 ∷ drop (i + 1) ws
   split = drop_more ws i 0 l
 
-  pub scan_clash : get_or ws i 0 ≡ 0 → b ≡ false → Clash ws vs
-  scan_clash z e s a m =
-      let ended = end_on s b (get_or ws i 0) (drop (i + 1) ws) z (subst (Meets s b) split (was.on s a m)) in
-      let no : true ≡ false = sym ended.0 ∙ e in
-      true≢false no
-
   pub scan_end : get_or ws i 0 ≡ 0 → b ≡ true → Scan ws vs (i + 1) false
   scan_end z e = record {
     on = λ s a m. (end_on s b (get_or ws i 0) (drop (i + 1) ws) z (subst (Meets s b) split (was.on s a m))).1;

@@ -69,6 +69,3 @@ module _ (ws arena swapped : List ℕ) (m low high c p q : ℕ) (ar : IsArena ws
               (cases_eq i c));
         };
   }
-
-  pub exchanged_header : get_or swapped c 0 ≡ get_or arena c 0
-  exchanged_header = at_other c (λ e. omega arith) (λ e. omega arith)

@@ -6,6 +6,9 @@
 // Between `low` and `high` lies a gap with no header, into which a clause is stored. As a rule `high`
 // is the arena's length. A reduction opens the gap at 0 and goes through the clauses from the bottom:
 // it moves each one that it keeps down to `low`, and drops the others, so that the gap widens.
+//
+// The memory is lent, with no heap, and its clauses are those that the C interface gives, each ended
+// by 0: so a clause is words in an array, and its name is a place.
 ghost use Rattle.std.specs.Prelude.{◌≡◌, ℕ, ◌+◌, ◌-◌, ◌<◌, ◌≤◌, false, length, MatchBool, MatchOption, slice_index};
 ghost use Rattle.clauses.specs.Flat.{Well, Within};
 ghost use Rattle.kernel.specs.Arena.{Follows, Header, head, size};
@@ -19,7 +22,7 @@ pub const HEADER: u32 = 0x8000_0000;
 pub fn is_header(words: &[u32], c: usize) -> bool
     ensures { MatchBool result (Header words.now c) (Header words.now c → ⊥) }
 {
-    c < words.len() && words[c] >= HEADER
+    words.get(c).is_some_and(|word| *word >= HEADER)
 }
 
 // How many literals the clause whose header stands at c has.

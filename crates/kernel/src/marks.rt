@@ -14,6 +14,7 @@ use crate::trail::{Trail, is_false};
 use clauses::{Literal, Variable};
 use std::marker::Model;
 
+// The memory is lent words, so a mark is a word that is not 0, and how many there are is counted beside them.
 #[derive(Drop)]
 pub struct Marks<'a> {
     seen: &'a mut [u32],
@@ -40,10 +41,7 @@ fn stands_from(places: &[u32], h: usize, from: usize) -> bool {
 fn shares_variable(resolved: Option<Literal>, y: Literal) -> bool
     ensures { result ≡ false → IfSome resolved (λ x. y.0 / 2 ≢ x.0 / 2) }
 {
-    match resolved {
-        Some(x) => x.variable() == y.variable(),
-        None => false,
-    }
+    resolved.is_some_and(|x| x.variable() == y.variable())
 }
 
 impl<'a> Marks<'a> {

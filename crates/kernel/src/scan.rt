@@ -32,6 +32,7 @@ impl Trail<'_> {
     pub fn free_literal(&self) -> Option<Literal>
         ensures { MatchOption result (Full self.now.clauses self.now.values) (λ x. Free self.now.values x.0) }
     {
+        // by `find`, tried, the closure would have to know that values has a place for x
         for code in self.clauses {
             let x = Literal(*code);
             if x.0 >= 2 && self.values[x.variable().index()] == 0 {

@@ -207,10 +207,10 @@ impl Trail<'_> {
     pub fn first_decision(&self) -> usize
         ensures { NoDecision self.now.kinds result }
     {
-        match self.kinds[..self.len].iter().position(|kind| *kind == 0) {
-            Some(p) => p,
-            None => self.len,
-        }
+        self.kinds[..self.len]
+            .iter()
+            .position(|kind| *kind == 0)
+            .unwrap_or(self.len)
     }
 
     // Sets a literal that follows from the clauses and the values; `reason` is a hint at a clause that

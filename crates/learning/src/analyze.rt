@@ -50,6 +50,7 @@ impl Search<'_> {
     {
         self.bump(c);
         let mut open = self.absorb(c, None, level)?;
+        // the loop changes the search, so that no iterator can hold its trail
         for p in (level..self.trail.len()).rev() {
             let x = self.trail.literal(p);
             if self.marks.contains(x.variable()) {

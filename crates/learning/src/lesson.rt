@@ -5,7 +5,7 @@ ghost use Rattle.kernel.specs.Resolve.{Blamed};
 
 use crate::propagation::Conflict;
 use crate::search::Search;
-use kernel::Look;
+use guidance::Fallback;
 
 // The most literals of a clause that is learned.
 const MOST_LITERALS: usize = 0x7fff_ffff;
@@ -20,11 +20,11 @@ pub struct Lesson {
 
 // The literals of a clause to learn: how many, on how many levels, and the place after the second of
 // them from the trail's end.
-#[derive(Clone, Copy)]
+#[derive(Clone, Copy, Default)]
 struct Collected {
     count: usize,
     levels: u32,
-    second: usize,
+    second: Option<usize>,
 }
 
 impl Search<'_> {
@@ -35,12 +35,9 @@ impl Search<'_> {
         ensures arena { self.new.arena ≡ self.old.arena }
         ensures marks { self.new.marks ≡ self.old.marks }
     {
-        let mut found = Collected {
-            count: 0,
-            levels: 0,
-            second: 0,
-        };
+        let mut found = Collected::default();
         let mut fresh = true;
+        // by places, since a literal and its reason are read behind the trail's face
         for p in (0..self.trail.len()).rev() {
             if found.count >= self.marks.len() || found.count >= self.literals.len() {
                 break;
@@ -50,7 +47,7 @@ impl Search<'_> {
                 self.literals[found.count] = x.negated().0;
                 found.count += 1;
                 if found.count == 2 {
-                    found.second = p + 1;
+                    found.second = Some(p + 1);
                 }
                 if fresh {
                     found.levels = found.levels.saturating_add(1);
@@ -98,14 +95,14 @@ impl Search<'_> {
     {
         let level = self.trail.last_decision()?;
         if self.analyze(conflict.0, level).is_none() {
-            self.guide.policy.note_failed_analysis();
+            self.guide.policy.note(Fallback::FailedAnalysis);
             return None;
         }
         let found = self.collect();
-        let keep = self.next_decision(found.second);
+        let keep = self.next_decision(found.second.unwrap_or(0));
         let literals = &self.literals[..found.count];
         if !self.marks.cover(&self.trail, literals) {
-            self.guide.policy.note_failed_analysis();
+            self.guide.policy.note(Fallback::FailedAnalysis);
             return None;
         }
         if found.count >= MOST_LITERALS || self.arena.room() <= found.count {
@@ -132,6 +129,19 @@ impl Search<'_> {
         lesson
     }
 
+    // Frees all literals of the trail but the first ones.
+    pub fn go_back(&mut self, keep: usize)
+        requires { keep ≤ length self.old.trail.kinds }
+        ensures clauses { self.new.trail.clauses ≡ self.old.trail.clauses }
+        ensures long { length self.new.trail.values ≡ length self.old.trail.values }
+        ensures arena { self.new.arena ≡ self.old.arena }
+        ensures marks { self.new.marks ≡ self.old.marks }
+    {
+        self.guide.release(&self.trail, keep);
+        self.guide.propagated = keep;
+        self.trail.retreat(keep);
+    }
+
     // Goes back to the first literals that a lesson keeps, and sets what its clause then forces.
     pub fn jump(&mut self, lesson: Lesson)
         requires { lesson.keep ≤ length self.old.trail.kinds }
@@ -140,14 +150,7 @@ impl Search<'_> {
         ensures arena { self.new.arena ≡ self.old.arena }
         ensures marks { self.new.marks ≡ self.old.marks }
     {
-        self.guide.release(&self.trail, lesson.keep);
-        self.guide.propagated = lesson.keep;
-        self.trail.retreat(lesson.keep);
-        if let Some(literals) = self.arena.clause(lesson.clause) {
-            if let Look::Unit(x) = self.trail.examine(literals) {
-                self.guide.phases.note_place(x, lesson.keep);
-                self.trail.imply(x, lesson.clause);
-            }
-        }
+        self.go_back(lesson.keep);
+        let _ = self.visit(lesson.clause);
     }
 }

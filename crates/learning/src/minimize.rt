@@ -13,14 +13,11 @@ impl Search<'_> {
         let Some(literals) = self.arena.clause(c) else {
             return false;
         };
-        for code in literals {
+        literals.iter().all(|code| {
             let y = Literal(*code);
             let v = y.variable();
-            if y != x && !self.marks.contains(v) && !self.guide.phases.stands_before(v, first) {
-                return false;
-            }
-        }
-        true
+            y == x || self.marks.contains(v) || self.guide.phases.stands_before(v, first)
+        })
     }
 
     // Resolves the marked literals from before place `top` downwards to the first decision with their
@@ -33,6 +30,7 @@ impl Search<'_> {
     {
         let end = self.trail.len();
         let mut kept: usize = 1;
+        // the loop changes the search, so that no iterator can hold its trail
         for p in (first..top.min(end)).rev() {
             if kept >= self.marks.len() {
                 break;
@@ -58,6 +56,7 @@ impl Search<'_> {
         ensures arena { self.new.arena ≡ self.old.arena }
         ensures blamed { Blamed self.new.trail.clauses self.new.trail.values self.new.marks }
     {
+        // the kernel takes the place, by which it knows that the literal is true in every model
         for p in (0..first).rev() {
             if self.marks.len() <= kept {
                 break;

@@ -18,7 +18,7 @@ pub struct Conflict(pub usize);
 
 impl Search<'_> {
     // Looks at the clause at c, if there is one, and sets the literal that it forces.
-    fn visit(&mut self, c: usize) -> Result<(), Conflict>
+    pub(crate) fn visit(&mut self, c: usize) -> Result<(), Conflict>
         ensures went { Went self.old.trail self.new.trail }
         ensures arena { self.new.arena ≡ self.old.arena }
         ensures marks { self.new.marks ≡ self.old.marks }
@@ -83,6 +83,7 @@ impl Search<'_> {
         ensures marks { self.new.marks ≡ self.old.marks }
         ensures conflict { IfErr result (λ _. Clash self.new.trail.clauses self.new.trail.values) }
     {
+        // a header may stand at any place, and `visit` changes the search
         for c in 0..self.arena.len() {
             self.visit(c)?;
         }

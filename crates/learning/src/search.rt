@@ -72,6 +72,7 @@ impl Search<'_> {
         ensures trail { self.new.trail ≡ self.old.trail }
     {
         self.guide.lists.clear();
+        // a header may stand at any place
         for c in 0..self.arena.len() {
             if let Some(literals) = self.arena.clause(c) {
                 self.guide.lists.attach(c, literals);

@@ -40,10 +40,10 @@ pub extern "C" fn rulebook_solve_counted(
     ensures { Answered clauses.now (length work.old) model.old model.new result }
 {
     let counted = solver::solve_counted(clauses, model, work);
-    if counts.len() >= 3 {
-        counts[0] = counted.fallbacks.missed_conflicts;
-        counts[1] = counted.fallbacks.failed_analyses;
-        counts[2] = counted.fallbacks.lost_variables;
+    if let [missed, failed, lost, ..] = counts {
+        *missed = counted.fallbacks.missed_conflicts;
+        *failed = counted.fallbacks.failed_analyses;
+        *lost = counted.fallbacks.lost_variables;
     }
     code(counted.solved)
 }

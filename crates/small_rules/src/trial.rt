@@ -27,6 +27,7 @@ fn turn(width: Width, used: &[bool; 16], values: &mut [u64; 16]) -> bool
     ensures turned { Turned result used.now (bits width) values.old values.new }
 {
     let most = width.mask();
+    // by `used[k]`, since after an early return out of a zip, tried, nothing is known of the values
     for (k, value) in values.iter_mut().enumerate() {
         if used[k] {
             if *value < most {

@@ -44,12 +44,7 @@ pub fn find_model<T: From<bool> + Drop>(
     match answer {
         Answer::Never => Answer::Never,
         Answer::Met => {
-            write_model(
-                formula.numbers,
-                map,
-                solver.search.trail.values(),
-                model,
-            );
+            write_model(formula.numbers, map, solver.search.trail.values(), model);
             Answer::Met
         }
     }

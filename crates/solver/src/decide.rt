@@ -10,6 +10,7 @@ pub(crate) fn pick(search: &mut Search) -> Option<Literal>
     ensures trail { search.new.trail ≡ search.old.trail }
     ensures free { IfSome result (λ x. Free search.new.trail.values x.0) }
 {
+    // the bound is there so that the search is seen to end: the order gives a variable once
     for _turn in 0..search.trail.values().len() {
         let v = search.guide.order.pop()?;
         let x = search.guide.phases.literal(v);

@@ -16,6 +16,7 @@ const SCORES: usize = 64;
 // How many learned clauses have each score.
 fn count_scores(arena: &Arena, lists: &Occurrences, given: usize) -> [u32; SCORES] {
     let mut counts = [0u32; SCORES];
+    // a header may stand at any place
     for c in given..arena.end() {
         if arena.is_header(c) {
             let score = (lists.score(c) as usize).min(SCORES - 1);

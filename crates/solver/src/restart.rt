@@ -9,7 +9,5 @@ pub(crate) fn withdraw(search: &mut Search)
     ensures long { length search.new.trail.values ≡ length search.old.trail.values }
 {
     let keep = search.trail.first_decision();
-    search.guide.release(&search.trail, keep);
-    search.guide.propagated = keep;
-    search.trail.retreat(keep);
+    search.go_back(keep);
 }

@@ -12,6 +12,7 @@ use crate::decide::pick;
 use crate::reduce::reduce;
 use crate::restart::withdraw;
 use clauses::{Answer, Literal};
+use guidance::Fallback;
 use learning::{Conflict, Search};
 
 // How often the search may go back further than the last decision.
@@ -44,7 +45,7 @@ fn find_free(search: &mut Search) -> Option<Literal>
         return Some(x);
     }
     let x = search.trail.free_literal()?;
-    search.guide.policy.note_lost_variable();
+    search.guide.policy.note(Fallback::LostVariable);
     Some(x)
 }
 
@@ -114,7 +115,7 @@ impl Solver<'_> {
     {
         let search = &mut self.search;
         if search.trail.clashes() {
-            search.guide.policy.note_missed_conflict();
+            search.guide.policy.note(Fallback::MissedConflict);
             return self.respond(None);
         }
         Some(Answer::Met)

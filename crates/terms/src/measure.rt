@@ -38,9 +38,9 @@ impl Measure {
     {
         Measure {
             load,
-            operations: 0,
             anys,
             cons,
+            ..Measure::default()
         }
     }
 
@@ -51,8 +51,7 @@ impl Measure {
         Measure {
             load,
             operations: 1,
-            anys: 0,
-            cons: 0,
+            ..Measure::default()
         }
     }
 
@@ -137,5 +136,12 @@ impl RuleMeasure {
             from: all[*from],
             to: all[*to],
         }
+    }
+
+    // The load of all its terms together.
+    pub(crate) fn weight(self) -> u64
+        ensures { result ≡ (together self.needs (together self.from self.to)).load }
+    {
+        self.needs.and(self.from.and(self.to)).load
     }
 }

@@ -1,6 +1,7 @@
 use words::{BinaryOp, UnaryOp};
 
-// One node of a term. The parts of an operation are the places of nodes before it.
+// One node of a term. The parts of an operation are the places of nodes before it, since there is no
+// heap for boxes.
 #[derive(Clone, Copy)]
 pub enum Node {
     Any(usize),
@@ -11,7 +12,7 @@ pub enum Node {
     Ite(usize, usize, usize),
 }
 
-// What fills the room for nodes to come.
+// What fills the room for nodes to come. A variant with data can't be the derived default.
 impl Default for Node {
     fn default() -> Node {
         Node::Any(0)

@@ -16,8 +16,7 @@ const LIMIT: u64 = 200000;
 pub fn weight(rule: &RuleNodes) -> u64
     ensures { (r : Rule) → Represents rule.now r → ok_rule r ≡ true → result ≡ weight r }
 {
-    let measure = RuleMeasure::of(rule);
-    measure.needs.and(measure.from.and(measure.to)).load
+    RuleMeasure::of(rule).weight()
 }
 
 // The second side has fewer operations, each name of it and of the needed terms stands on the first
@@ -30,7 +29,7 @@ fn accepted(measure: RuleMeasure) -> bool
         && from.anys | to.anys == from.anys
         && from.cons | (to.cons | needs.cons) == from.cons
         && needs.anys == 0
-        && needs.and(from.and(to)).load <= LIMIT
+        && measure.weight() <= LIMIT
 }
 
 // Whether a rule may be used to rewrite a listing, whether or not it holds.

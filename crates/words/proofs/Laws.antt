@@ -92,10 +92,6 @@ bitwise_word f (suc w) x y =
 flag_word : (w : ℕ) (b : Bool) → 0 < w → pick b 1 0 < 2 ^ w
 flag_word w b h = pick_both (λ n. n < 2 ^ w) b 1 0 (pow-lt h) (pow_pos w)
 
-pub do1_word : (w : ℕ) (o : UnaryOp) (x : ℕ) → x < 2 ^ w → do1 w o x < 2 ^ w
-do1_word w Not x h = ones_sub-lt w x
-do1_word w Neg x h = mod-lt (2 ^ w - x) (pow_pos w)
-
 shifted_word : (w x y : ℕ) → x < 2 ^ w → x / 2 ^ y < 2 ^ w
 shifted_word w x y h = omega (arith, div-le_self x (2 ^ y))
 

@@ -5,6 +5,6 @@ use Rattle.terms.proofs.usability.weight.Goals as goal
 
 pub returns : goal.returns
 returns c = λ r rep ok.
-    ap (λ m. m.load) (c.and-2.ensures ∙ ap (together c.of-measure.result.needs) c.and.ensures)
-    ∙ ap (λ m. (together m.needs (together m.from m.to)).load) (c.of-measure.ensures r rep)
+    c.weight.ensures
+    ∙ ap (λ m. (together m.needs (together m.from m.to)).load) (c.of.ensures r rep)
     ∙ weight_measured r ok
