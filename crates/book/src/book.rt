@@ -13,6 +13,7 @@ pub fn read_book(text: &[u8]) -> Result<usize, Fault>
 {
     let mut reader = Reader::new(text);
     let mut count = 0;
+    // the reader goes on by a rule, so that no range gives the places
     while !reader.is_at_end() {
         if count == MOST_RULES {
             reader.next();

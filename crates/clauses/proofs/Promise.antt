@@ -1,5 +1,5 @@
 -- What a solver has to show for each of its answers.
-use Rattle.std.proofs.Common.{◌≡◌, ℕ, ◌+◌, ◌-◌, ◌*◌, ◌/◌, ◌%◌, ◌<◌, ◌≤◌, false, eqb, ◌⊎◌, List, length, get_or, Ok, Err, sym, refl, ap, ◌∙◌, inl, inr, arith}
+use Rattle.std.proofs.Common.{◌≡◌, ℕ, ◌+◌, ◌-◌, ◌*◌, ◌/◌, ◌%◌, ◌≤◌, false, eqb, ◌⊎◌, List, length, get_or, Ok, Err, sym, refl, ap, ◌∙◌, inl, inr, arith}
 use Rattle.std.specs.Int.{from_bool}
 use Rattle.clauses.specs.declared.solved.Answer.TheVariants.{Met, Never}
 use Rattle.clauses.specs.declared.solved.Refusal.TheVariants.{NoClauses, Small}

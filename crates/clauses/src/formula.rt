@@ -1,4 +1,5 @@
-// Clauses that were read: what is asked of the numbers before they are solved, as a fact of a type.
+// Clauses that were read: what is asked of the numbers before they are solved, as a fact of a type. The
+// numbers are those of the C interface, where 0 ends a clause.
 ghost use Rattle.std.specs.Prelude.{◌≡◌, ℕ, ◌+◌, ◌^◌, ◌<◌, false, MatchResult, slice_index};
 ghost use Rattle.clauses.specs.Flat.{Well, Within};
 ghost use Rattle.clauses.specs.Formula.{Refused, Well-prop};

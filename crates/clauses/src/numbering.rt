@@ -1,5 +1,6 @@
 // Variables numbered inside by those that occur, so that a solver's arrays
-// are as large as the variables that occur and not as the model is long.
+// are as large as the variables that occur and not as the model is long. The memory is lent words, so
+// a variable that has no number yet has 0.
 ghost use Rattle.std.specs.Prelude.{◌≡◌, ◌+◌, ◌^◌, ◌<◌, ◌≤◌, length};
 ghost use Rattle.clauses.specs.Numbering.{Inverse, Numbered, Renamed};
 

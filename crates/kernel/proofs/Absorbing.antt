@@ -1,12 +1,10 @@
 -- Resolving with a clause: its variables are marked in the place of one that was.
-use Rattle.std.proofs.Common.{◌≡◌, ℕ, ◌+◌, ◌-◌, ◌/◌, ◌<◌, ◌≤◌, true, List, length, get_or, set, sym, ap, ◌∙◌, subst, ⊎_elim, arith, length-set, get_or-set_other, get_or-set_same}
-use Rattle.std.proofs.lemmas.Bool.{cases_eq, true≢false}
-use Rattle.clauses.specs.Flat.{lit_truth}
+use Rattle.std.proofs.Common.{◌≡◌, ℕ, ◌+◌, ◌-◌, ◌/◌, ◌<◌, ◌≤◌, List, length, get_or, set, sym, ap, ◌∙◌, subst, ⊎_elim, arith, length-set, get_or-set_other, get_or-set_same}
+use Rattle.std.proofs.lemmas.Bool.{cases_eq}
 use Rattle.kernel.specs.Trail.{False, Own}
 use Rattle.kernel.specs.Arena.{Clause}
-use Rattle.kernel.specs.Resolve.{Due, Blamed, Counts}
+use Rattle.kernel.specs.Resolve.{Due, Counts}
 use Rattle.kernel.proofs.Marking.{Marked}
-use Rattle.kernel.proofs.Truth.{opposite_false}
 use Rattle.kernel.proofs.Zeros.{zeros_fill, zeros_free, zeros_most}
 
 -- k literals of a clause from i on are x, or false and marked

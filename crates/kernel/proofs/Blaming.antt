@@ -1,6 +1,5 @@
 -- Marks that a literal loses which every model makes true.
-use Rattle.std.proofs.Common.{◌≡◌, ℕ, ◌-◌, ◌<◌, ◌≤◌, Bool, true, List, length, get_or, take, set, sym, ap, ◌∙◌, ⊎_elim, arith, length-set, get_or-set_other}
-use Rattle.std.proofs.lemmas.Bool.{cases_eq}
+use Rattle.std.proofs.Common.{◌≡◌, ℕ, ◌-◌, ◌<◌, ◌≤◌, Bool, true, List, length, get_or, take, set, ◌∙◌, arith, length-set}
 use Rattle.std.proofs.lemmas.List.{length-take-le, get_or-take}
 use Rattle.clauses.specs.Flat.{lit_truth, Model}
 use Rattle.kernel.specs.Trail.{State, NoDecision}

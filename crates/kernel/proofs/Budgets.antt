@@ -1,6 +1,6 @@
 -- What is left to do falls with each step on, and with each start over that is paid for.
-use Rattle.std.proofs.Common.{◌≡◌, ℕ, ◌+◌, ◌-◌, ◌*◌, ◌^◌, ◌<◌, ◌≤◌, length, sym, ap, ◌∙◌, add-mul, one-mul, arith}
-use Rattle.kernel.specs.Trail.{Trailed, Further, Went, rank}
+use Rattle.std.proofs.Common.{◌≡◌, ℕ, ◌+◌, ◌-◌, ◌*◌, ◌^◌, ◌<◌, length, sym, ap, ◌∙◌, add-mul, one-mul, arith}
+use Rattle.kernel.specs.Trail.{Trailed, Further, rank}
 use Rattle.kernel.specs.Budget.{left}
 use Rattle.kernel.proofs.Ranks.{rank_below}
 

@@ -1,9 +1,9 @@
 -- What a scan of the words has shown.
-use Rattle.std.proofs.Common.{◌≡◌, ℕ, zero, suc, ◌+◌, ◌/◌, ◌<◌, Bool, true, false, ◌||◌, List, [], ◌∷◌, length, get_or, drop, sym, refl, ◌∙◌, subst, inl, inr, arith}
-use Rattle.std.proofs.lemmas.Bool.{true≢false, cases_eq}
+use Rattle.std.proofs.Common.{◌≡◌, ℕ, zero, suc, ◌+◌, ◌/◌, ◌<◌, Bool, true, false, ◌||◌, List, [], ◌∷◌, length, get_or, drop, sym, refl, subst, inl, inr, arith}
+use Rattle.std.proofs.lemmas.Bool.{cases_eq}
 use Rattle.std.proofs.lemmas.List.{drop_more}
 use Rattle.clauses.specs.Flat.{lit_truth, Meets, Model}
-use Rattle.kernel.specs.Trail.{Agrees, Clash, False, Own}
+use Rattle.kernel.specs.Trail.{Agrees, False, Own}
 use Rattle.kernel.specs.Scan.{Open}
 use Rattle.kernel.proofs.Truth.{opposite_false}
 

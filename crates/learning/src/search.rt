@@ -12,7 +12,7 @@ pub struct Search<'a> {
     pub trail: Trail<'a>,
     pub arena: Arena<'a>,
     pub marks: Marks<'a>,
-    // Room for the literals of a clause to learn.
+    // Room for the literals of a clause to learn: lent, so that how many there are stands elsewhere.
     pub literals: &'a mut [u32],
     pub guide: Guide<'a>,
     ghost same: { arena.clauses ≡ trail.clauses },
@@ -32,6 +32,7 @@ impl<'a> Search<'a> {
         ensures clauses { result.trail.clauses ≡ formula.now.numbers.now }
         ensures long { length result.trail.values ≡ formula.now.variables + 1 }
     {
+        // one after the other, since each area has a name of its own
         let n = formula.variables + 1;
         let (values, rest) = work.split_at_mut(n);
         let (trail, rest) = rest.split_at_mut(n);
@@ -85,6 +86,7 @@ impl Search<'_> {
         ensures trail { self.new.trail ≡ self.old.trail }
     {
         let end = self.trail.values().len();
+        // the numbers themselves are inserted
         for v in 1..end {
             if v < 0x4000_0000 {
                 self.guide.order.insert(Variable(v as u32));

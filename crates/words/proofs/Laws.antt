@@ -4,13 +4,11 @@ use native.Mathlib.Nat.{mod-le, mul-add-mod_self_right}
 use lib.Arith.{lt-one}
 use lib.Bits.{bit_and, bit_or, bit_xor, and_step, or_step, xor_step, differ}
 use lib.Pow.{pow-lt, mod-mod-pow, ones_lt, ones_sub-lt}
-use Rattle.words.specs.declared.UnaryOp.{UnaryOp}
-use Rattle.words.specs.declared.UnaryOp.TheVariants.{Not, Neg}
 use Rattle.words.specs.declared.BinaryOp.{BinaryOp}
 use Rattle.words.specs.declared.BinaryOp.TheVariants.{Add, Sub, Mul, Udiv, Urem, And, Or, Xor, Shl, Lshr, Ashr, Comp, Ult, Slt}
 use Rattle.words.specs.declared.Width.{Width}
 use Rattle.words.specs.declared.Width.TheVariants.{W8, W16, W32, W64}
-use Rattle.words.specs.Words.{bits, pick, odd, bitwise, top, xor, do1, do2, moved}
+use Rattle.words.specs.Words.{bits, pick, odd, bitwise, top, xor, do2, moved}
 
 pub bits_le : (v : Width) → bits v ≤ 64
 bits_le W8 = lit≤ tt
