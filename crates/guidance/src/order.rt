@@ -43,9 +43,9 @@ impl Order<'_> {
 
     // Puts a variable at a place of the heap.
     fn place(&mut self, i: usize, v: u32) {
-        if i < 0x7fff_ffff {
+        if let Ok(slot) = u32::try_from(i.saturating_add(1)) {
             put(self.heap, i, v);
-            put(self.slots, v as usize, i as u32 + 1);
+            put(self.slots, v as usize, slot);
         }
     }
 
@@ -103,10 +103,7 @@ impl Order<'_> {
 
     // Puts a variable into the heap, if it isn't there.
     pub fn insert(&mut self, v: Variable) {
-        if v.index() < self.slots.len()
-            && self.slots[v.index()] == 0
-            && self.len < self.heap.len()
-        {
+        if self.slots.get(v.index()) == Some(&0) && self.len < self.heap.len() {
             let last = self.len;
             self.len = last + 1;
             self.place(last, v.0);

@@ -132,7 +132,7 @@ impl Marks<'_> {
         ensures blamed { Blamed trail.now.clauses trail.now.values self.new }
         ensures cleared { self.new ≡ slice_set self.old (slice_index trail.now.literals p / 2) 0 }
     {
-        let h = trail.settled(first, p).variable().index();
+        let h = trail.literal(p).variable().index();
         if self.seen[h] != 0 {
             self.seen[h] = 0;
             self.count -= 1;

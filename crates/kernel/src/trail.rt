@@ -132,11 +132,12 @@ impl Trail<'_> {
         &self.literals[..self.len]
     }
 
-    // The literal at a place.
+    // The literal at a place; before the first decision every model makes it true.
     pub fn literal(&self, p: usize) -> Literal
         requires { p < length self.now.kinds }
         ensures literal { result.0 ≡ slice_index self.now.literals p }
         ensures set { IsSet self.now.values result.0 }
+        ensures settled { (first : ℕ) (s : ℕ → Bool) → p < first → NoDecision self.now.kinds first → Model s self.now.clauses → lit_truth s result.0 ≡ true }
     {
         Literal(self.literals[..self.len][p])
     }
@@ -148,17 +149,6 @@ impl Trail<'_> {
         ensures other { result.0 ≢ slice_index self.now.literals p }
     {
         self.literal(p).negated()
-    }
-
-    // The literal at a place before the first decision, which every model makes true.
-    pub(crate) fn settled(&self, first: usize, p: usize) -> Literal
-        requires first { NoDecision self.now.kinds first }
-        requires place { p < first }
-        ensures literal { result.0 ≡ slice_index self.now.literals p }
-        ensures set { IsSet self.now.values result.0 }
-        ensures settled { (s : ℕ → Bool) → Model s self.now.clauses → lit_truth s result.0 ≡ true }
-    {
-        Literal(self.literals[..self.len][p])
     }
 
     // The reason of the literal at a place, by a hint; none of a decision.
