@@ -1,7 +1,9 @@
 -- What a look at every given clause shows.
 use Rattle.std.specs.Prelude.{◌≡◌, ℕ, ◌/◌, ◌<◌, ◌≤◌, Bool, true, ◌⊎◌, List, length, ◌≢◌, slice_index}
-use Rattle.clauses.specs.Flat.{lit_truth, Model}
-use Rattle.kernel.specs.Trail.{Own}
+use Rattle.clauses.specs.declared.solved.Answer.{Answer}
+use Rattle.clauses.specs.declared.solved.Answer.TheVariants.{Met, Never}
+use Rattle.clauses.specs.Flat.{lit_truth, Hopeless, Model}
+use Rattle.kernel.specs.Trail.{Own, Trailed}
 
 -- a literal that is not false
 abbrev pub Open : List ℕ → ℕ → Type 0
@@ -20,3 +22,8 @@ pub record Solution (ws values : List ℕ) : Type 0 where
   pub full : Full ws values
   pub clear : Clear ws values
   pub own : Own values
+
+-- the values meet the clauses, or nothing does
+abbrev pub Found : Trailed → Answer → Type 0
+Found t Met = Solution t.clauses t.values
+Found t Never = Hopeless t.clauses

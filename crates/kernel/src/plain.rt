@@ -1,26 +1,26 @@
 // Plain solving: decide, look at every clause, turn the last decision. It learns nothing and
 // needs no memory beside the trail, so it is the way out where the clauses are too large for the
 // arena's words.
-ghost use Rattle.std.specs.Prelude.{◌≡◌, MatchBool, length};
-ghost use Rattle.clauses.specs.Flat.{Hopeless};
-ghost use Rattle.kernel.specs.Scan.{Solution};
+ghost use Rattle.std.specs.Prelude.{◌≡◌, length};
+ghost use Rattle.kernel.specs.Scan.{Found};
 
 use crate::trail::Trail;
+use clauses::Answer;
 
 // Whether some assignment meets the clauses: the values then are one.
-pub fn search_plain(trail: &mut Trail) -> bool
+pub fn search_plain(trail: &mut Trail) -> Answer
     ensures clauses { trail.new.clauses ≡ trail.old.clauses }
     ensures long { length trail.new.values ≡ length trail.old.values }
-    ensures answer { MatchBool result (Solution trail.new.clauses trail.new.values) (Hopeless trail.old.clauses) }
+    ensures answer { Found trail.new result }
 {
     'turns: loop {
         if trail.clashes() {
             if !trail.flip() {
-                return false;
+                return Answer::Never;
             }
         } else {
             let Some(x) = trail.free_literal() else {
-                return true;
+                return Answer::Met;
             };
             trail.decide(x);
         }

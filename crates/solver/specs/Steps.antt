@@ -1,16 +1,9 @@
 -- What a turn of the search comes to.
 use Rattle.std.specs.Prelude.{◌≡◌, ℕ, ◌<◌, length, Option, MatchOption}
 use Rattle.clauses.specs.declared.solved.Answer.{Answer}
-use Rattle.clauses.specs.declared.solved.Answer.TheVariants.{Met, Never}
-use Rattle.clauses.specs.Flat.{Hopeless}
 use Rattle.kernel.specs.Budget.{left}
-use Rattle.kernel.specs.Scan.{Solution}
+use Rattle.kernel.specs.Scan.{Found}
 use Rattle.kernel.specs.Trail.{Trailed}
-
--- the values meet the clauses, or nothing does
-abbrev pub Found : Trailed → Answer → Type 0
-Found t Met = Solution t.clauses t.values
-Found t Never = Hopeless t.clauses
 
 -- from t with a budget of b to t' with b': an answer is found, or what is left to do has fallen
 pub record Turned (t : Trailed) (b : ℕ) (t' : Trailed) (b' : ℕ) (r : Option Answer) : Type 0 where

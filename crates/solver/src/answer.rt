@@ -81,11 +81,13 @@ fn solve_plain(formula: &Formula, model: &mut [u8], work: &mut [u32]) -> Answer
     let (literals, kinds) = rest.split_at_mut(n);
     number_in_order(map);
     let mut trail = Trail::new(formula.numbers, values, literals, kinds);
-    if !search_plain(&mut trail) {
-        return Answer::Never;
+    match search_plain(&mut trail) {
+        Answer::Never => Answer::Never,
+        Answer::Met => {
+            write_model(formula.numbers, map, trail.values(), model);
+            Answer::Met
+        }
     }
-    write_model(formula.numbers, map, trail.values(), model);
-    Answer::Met
 }
 
 // Says whether some assignment meets all clauses, writes one, and counts fallbacks.

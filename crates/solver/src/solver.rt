@@ -6,7 +6,8 @@
 ghost use Rattle.std.specs.Prelude.{◌≡◌, ◌-◌, ◌<◌, length, IfSome, MatchOption};
 ghost use Rattle.kernel.specs.Scan.{Full};
 ghost use Rattle.kernel.specs.Trail.{Clash, Free};
-ghost use Rattle.solver.specs.Steps.{Found, Turned};
+ghost use Rattle.kernel.specs.Scan.{Found};
+ghost use Rattle.solver.specs.Steps.{Turned};
 
 use crate::decide::pick;
 use crate::reduce::reduce;

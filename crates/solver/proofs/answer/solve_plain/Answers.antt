@@ -3,8 +3,8 @@ use Rattle.kernel.specs.Scan.{Solution}
 use Rattle.solver.proofs.Solutions.{plain_model}
 use Rattle.solver.proofs.answer.solve_plain.Goals as goal
 
-pub returns : goal.returns
-returns c =
+pub returns-in-Met : goal.returns-in-Met
+returns-in-Met c =
     let ws = c.args.formula.now.numbers.now in
     let same : c.search_plain.new.trail.clauses ≡ c.args.formula.now.numbers.now = search rules in
     let met : Solution c.search_plain.new.trail.clauses c.search_plain.new.trail.values = search rules in
