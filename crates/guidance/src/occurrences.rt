@@ -39,12 +39,12 @@ impl Occurrences<'_> {
     // Adds the literals of the clause at c.
     pub fn attach(&mut self, c: usize, literals: &[u32]) {
         for (x, p) in literals.iter().zip(1..) {
-            self.link(c, p, *x as usize);
+            self.attach_literal(c, p, *x as usize);
         }
     }
 
     // Adds the literal at the p-th place after the header of the clause at c.
-    fn link(&mut self, c: usize, p: usize, head: usize) {
+    fn attach_literal(&mut self, c: usize, p: usize, head: usize) {
         let Some(place) = c.checked_add(p) else {
             return;
         };

@@ -55,7 +55,6 @@ impl Arena<'_> {
         self.low = 0;
         self.high = 0;
         // a clause is as long as its header says, so no range or iterator gives the places
-        // a step goes over a word or over a clause, so that no range gives the places
         while self.high < self.words.len() {
             let c = self.high;
             if !self.is_header(c) {

@@ -1,5 +1,5 @@
 // Learning: the clause of the negations of all that is to blame, stored in the arena.
-ghost use Rattle.std.specs.Prelude.{◌≡◌, ℕ, ◌≤◌, ◌<◌, length, IfSome, slice_index};
+ghost use Rattle.std.specs.Prelude.{◌≡◌, ℕ, ◌≤◌, ◌<◌, length, IfSome, slice_index, take};
 ghost use Rattle.kernel.specs.Arena.{Header};
 ghost use Rattle.kernel.specs.Resolve.{Blamed};
 
@@ -132,6 +132,8 @@ impl Search<'_> {
     // Frees all literals of the trail but the first ones.
     pub fn go_back(&mut self, keep: usize)
         requires { keep ≤ length self.old.trail.kinds }
+        ensures literals { self.new.trail.literals ≡ take keep self.old.trail.literals }
+        ensures kinds { self.new.trail.kinds ≡ take keep self.old.trail.kinds }
         ensures clauses { self.new.trail.clauses ≡ self.old.trail.clauses }
         ensures long { length self.new.trail.values ≡ length self.old.trail.values }
         ensures arena { self.new.arena ≡ self.old.arena }
