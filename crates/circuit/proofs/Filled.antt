@@ -2,7 +2,8 @@
 use Rattle.std.proofs.Common.{◌≡◌, ℕ, suc, ◌+◌, ◌-◌, ◌<◌, ◌≤◌, List, [], ◌∷◌, ◌++◌, length, get_or, take, drop, set, replicate, sym, refl, ap, ◌∙◌, append_assoc, append-nil, Some, arith}
 use Rattle.std.specs.Prelude.{slice_get}
 use Rattle.std.specs.Option.{unwrap_or}
-use Rattle.std.proofs.lemmas.List.{at_drop_more, at_drop_all, take_all, take_more_set, length-replicate}
+use Rattle.std.proofs.lemmas.List.{at_drop_more, at_drop_all, take_all, take_more_set, take-replicate}
+use Rattle.std.proofs.Math.Seq.{take-append_seam}
 use Rattle.clauses.specs.declared.literal.Literal.{Literal}
 use Rattle.circuit.specs.Bits.{fill, flag, top, top_of}
 use Rattle.clauses.specs.Literals.{negated}
@@ -21,15 +22,20 @@ flag_replicate z b (x ∷ xs) = ap (λ l. b ∷ l) (fill_replicate z xs)
 pub flag_alike : (z b : Literal) (xs ys : List Literal) → length xs ≡ length ys → flag z b xs ≡ flag z b ys
 flag_alike z b xs ys e = flag_replicate z b xs ∙ ap (λ n. set (replicate n z) 0 b) e ∙ sym (flag_replicate z b ys)
 
-pub flag_written : (z b : Literal) (w : ℕ) → set (replicate w z) 0 b ≡ flag z b (replicate w z)
-flag_written z b w = sym (flag_replicate z b (replicate w z) ∙ ap (λ n. set (replicate n z) 0 b) (length-replicate w z))
+pub flag_written : (z b : Literal) (xs os : List Literal) → os ≡ replicate (length xs) z → set os 0 b ≡ flag z b xs
+flag_written z b xs os e = ap (λ l. set l 0 b) e ∙ sym (flag_replicate z b xs)
 
--- the word flagged, as long as xs
-pub flag_width : (b : Literal) (w : ℕ) (xs : List Literal) → length xs ≡ w → flag low b (replicate w low) ≡ flag low b xs
-flag_width b w xs e = flag_alike low b (replicate w low) xs (length-replicate w low ∙ sym e)
+-- a word that was written with 0
+pub zero_word : (zs xs os : List Literal) → length zs ≡ length xs → os ≡ replicate (length zs) low → os ≡ fill low xs
+zero_word zs xs os e is = is ∙ ap (λ k. replicate k low) e ∙ sym (fill_replicate low xs)
 
-pub zero_width : (w : ℕ) (xs : List Literal) → length xs ≡ w → replicate w low ≡ fill low xs
-zero_width w xs e = sym (fill_replicate low xs ∙ ap (λ k. replicate k low) e)
+-- a word of zeros, cut to the length of xs
+pub zero_front : (w : ℕ) (xs : List Literal) → length xs ≤ w → take (length xs) (replicate w low) ≡ fill low xs
+zero_front w xs h = take-replicate (length xs) w low h ∙ sym (fill_replicate low xs)
+
+-- what was written to the front of a longer word
+pub front_written : (w : ℕ) (xs ys : List Literal) → length xs ≡ w → take w (xs ++ ys) ≡ xs
+front_written w xs ys e = ap (λ k. take k (xs ++ ys)) (sym e) ∙ take-append_seam xs ys
 
 last_top : (x : Literal) (xs : List Literal) → slice_get (x ∷ xs) (length xs) ≡ Some (top x xs)
 last_top x [] = refl

@@ -66,12 +66,12 @@ rows_grow xs ys (suc k) n h e =
     let row = product_row_grows (get_or xs k blank) (take (length xs - k) ys) q.1.0 q.0 in
     grows_then (subst (λ r. Grows q.0 r.0) (sym (rows_more xs ys k n (omega arith) e)) row) (rows_grow xs ys k n (omega arith) e)
 
--- one more row, as the code has its words of width w
-abbrev pub row_at : ℕ → ℕ → List Literal → List Literal → List Literal → Net → Net × (List Literal × Literal)
-row_at w k xs ys os n = product_row_net (get_or xs k blank) (take (w - k - 0) ys) (drop 1 (take (w - k) (drop k os))) n
+-- one more row, as the code has its words
+abbrev pub row_at : ℕ → List Literal → List Literal → List Literal → Net → Net × (List Literal × Literal)
+row_at k xs ys os n = product_row_net (get_or xs k blank) (take (length xs - k - 0) ys) (drop 1 (take (length xs - k) (drop k os))) n
 
-row_of : (xs ys os cs : List Literal) (i : ℕ) (n m : Net) → 0 < i → i ≤ length xs → length ys ≡ length xs → length os ≡ length xs → rows_from i xs ys n ≡ (m, (drop i os, drop i cs)) → let r = row_at (length xs) (i - 1) xs ys os m in rows_from (i - 1) xs ys n ≡ (r.0, (r.1.0, r.1.1 ∷ drop i cs))
-row_of xs ys os cs i n m pos h e o is =
+pub row_is : (xs ys os cs : List Literal) (i : ℕ) (n m : Net) → 0 < i → i ≤ length xs → length ys ≡ length xs → length os ≡ length xs → rows_from i xs ys n ≡ (m, (drop i os, drop i cs)) → let r = row_at (i - 1) xs ys os m in rows_from (i - 1) xs ys n ≡ (r.0, (r.1.0, r.1.1 ∷ drop i cs))
+row_is xs ys os cs i n m pos h e o is =
     let k = i - 1 in
     let up : suc k ≡ i = omega arith in
     let place : k + 1 ≡ i = omega arith in
@@ -81,15 +81,12 @@ row_of xs ys os cs i n m pos h e o is =
     rows_more xs ys k n (omega arith) e ∙ ap (λ j. under (get_or xs k blank) (take (length xs - k) ys) (rows_from j xs ys n)) up ∙ ap (under (get_or xs k blank) (take (length xs - k) ys)) is
     ∙ ap (λ j. row (take j ys) (drop i os)) (sym width) ∙ ap (row (take (length xs - k - 0) ys)) (sym part)
 
-pub row_is : (w : ℕ) (xs ys os cs : List Literal) (i : ℕ) (n m : Net) → w ≡ length xs → 0 < i → i ≤ length xs → length ys ≡ length xs → length os ≡ length xs → rows_from i xs ys n ≡ (m, (drop i os, drop i cs)) → let r = row_at w (i - 1) xs ys os m in rows_from (i - 1) xs ys n ≡ (r.0, (r.1.0, r.1.1 ∷ drop i cs))
-row_is w xs ys os cs i n m width pos h e o is = subst (λ v. let r = row_at v (i - 1) xs ys os m in rows_from (i - 1) xs ys n ≡ (r.0, (r.1.0, r.1.1 ∷ drop i cs))) (sym width) (row_of xs ys os cs i n m pos h e o is)
-
-pub row_again : {b b' : Written} (v : ℕ) (xs ys os cs new : List Literal) (over : Literal) (i : ℕ) (n m : Net) → v ≡ length xs → 0 < i → i ≤ length xs → length ys ≡ length xs → length os ≡ length xs → length cs ≡ length xs → rows_from i xs ys n ≡ (m, (drop i os, drop i cs)) → let r = row_at v (i - 1) xs ys os m in Wrote b b' r.0 → new ≡ r.1.0 → over ≡ r.1.1 → rows_from (i - 1) xs ys n ≡ (b'.net, (drop (i - 1) (put_mid (i - 1) (v - (i - 1)) os new), drop (i - 1) (set cs (i - 1) over)))
-row_again {b} {b'} v xs ys os cs new over i n m width pos h e o c is w en eo =
+pub row_again : {b b' : Written} (xs ys os cs new : List Literal) (over : Literal) (i : ℕ) (n m : Net) → 0 < i → i ≤ length xs → length ys ≡ length xs → length os ≡ length xs → length cs ≡ length xs → rows_from i xs ys n ≡ (m, (drop i os, drop i cs)) → let r = row_at (i - 1) xs ys os m in Wrote b b' r.0 → new ≡ r.1.0 → over ≡ r.1.1 → rows_from (i - 1) xs ys n ≡ (b'.net, (drop (i - 1) (put_mid (i - 1) (length xs - (i - 1)) os new), drop (i - 1) (set cs (i - 1) over)))
+row_again {b} {b'} xs ys os cs new over i n m pos h e o c is w en eo =
     let k = i - 1 in
-    let r = row_at v k xs ys os m in
+    let r = row_at k xs ys os m in
     let place : k + 1 ≡ i = omega arith in
-    let word : drop k (put_mid k (v - k) os new) ≡ r.1.0 = drop_written os new k (v - k) (omega arith) (omega arith) ∙ en in
+    let word : drop k (put_mid k (length xs - k) os new) ≡ r.1.0 = drop_written os new k (length xs - k) (omega arith) (omega arith) ∙ en in
     let carries : drop k (set cs k over) ≡ r.1.1 ∷ drop i cs = drop-set cs k over (omega arith) ∙ ap (λ j. over ∷ drop j cs) place ∙ ap (λ x. x ∷ drop i cs) eo in
-    row_is v xs ys os cs i n m width pos h e o is
-    ∙ sym (ap (λ q. (q, (drop k (put_mid k (v - k) os new), drop k (set cs k over)))) w.net ∙ ap (λ l. (r.0, (l, drop k (set cs k over)))) word ∙ ap (λ l. (r.0, (r.1.0, l))) carries)
+    row_is xs ys os cs i n m pos h e o is
+    ∙ sym (ap (λ q. (q, (drop k (put_mid k (length xs - k) os new), drop k (set cs k over)))) w.net ∙ ap (λ l. (r.0, (l, drop k (set cs k over)))) word ∙ ap (λ l. (r.0, (r.1.0, l))) carries)

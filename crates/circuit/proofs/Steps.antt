@@ -1,5 +1,5 @@
 -- One more bit of each circuit on words.
-use Rattle.std.proofs.Common.{◌≡◌, ℕ, ◌+◌, ◌<◌, ◌≤◌, ltb, List, [], ◌∷◌, length, get_or, drop, sym, ap, ◌∙◌}
+use Rattle.std.proofs.Common.{◌≡◌, ℕ, ◌+◌, ◌<◌, ◌≤◌, Bool, true, false, ltb, cond, List, [], ◌∷◌, length, get_or, drop, sym, refl, ap, ◌∙◌}
 use Rattle.circuit.specs.declared.shifting.Direction.{Direction}
 use Rattle.std.proofs.lemmas.List.{at_drop_more, at_drop_all}
 use Rattle.std.proofs.lemmas.Bool.{lt-ltb, le-ltb, cond-true, cond-false}
@@ -9,7 +9,7 @@ use Rattle.circuit.specs.Bits.{fill, moved}
 use Rattle.clauses.specs.Literals.{negated}
 use Rattle.circuit.specs.Nets.{Net, low}
 use Rattle.circuit.specs.Gates.{or_net, majority_net, choice_net}
-use Rattle.circuit.specs.Circuits.{bit_net, bitwise_net, choose_net, full_net, add_net, borrow_net, equal_net, any_net, shift_net, row_net}
+use Rattle.circuit.specs.Circuits.{turned, bit_net, bitwise_net, choose_net, full_net, add_net, borrow_net, equal_net, any_net, shift_net, row_net}
 use Rattle.circuit.specs.Parts.{equal_bit_net, row_bit_net}
 use Rattle.circuit.proofs.Loops.{after, alone, pair_step}
 use Rattle.circuit.proofs.Moving.{moved_out}
@@ -18,8 +18,13 @@ use Rattle.circuit.proofs.Moving.{moved_out}
 abbrev pub blank : Literal
 blank = record { 0 = 0 }
 
-pub add_next : {xs ys xs' ys' : List Literal} {x y : Literal} (c : Literal) (n : Net) → (xs ≡ x ∷ xs') × (ys ≡ y ∷ ys') → let t = full_net x y c n in add_net xs ys c n ≡ after (t.1.0 ∷ []) (add_net xs' ys' t.1.1 t.0)
-add_next c n e = pair_step (λ l m. add_net l m c n) e
+turned_cons : (v : Bool) (y : Literal) (ys : List Literal) → turned v (y ∷ ys) ≡ cond v (negated y) y ∷ turned v ys
+turned_cons true y ys = refl
+turned_cons false y ys = refl
+
+pub add_next : {xs ys xs' ys' : List Literal} {x y : Literal} (v : Bool) (o c : Literal) (n : Net) → (xs ≡ x ∷ xs') × (ys ≡ y ∷ ys') → o ≡ cond v (negated y) y → let t = full_net x o c n in add_net xs (turned v ys) c n ≡ after (t.1.0 ∷ []) (add_net xs' (turned v ys') t.1.1 t.0)
+add_next {xs' = xs'} {ys'} {x} {y} v o c n e f =
+    pair_step (λ l m. add_net l (turned v m) c n) e ∙ ap (λ l. add_net (x ∷ xs') l c n) (turned_cons v y ys' ∙ ap (λ z. z ∷ turned v ys') (sym f))
 
 pub any_more : (xs : List Literal) (i : ℕ) (c : Literal) (n : Net) → i < length xs → let t = or_net c (get_or xs i blank) n in any_net (drop i xs) c n ≡ any_net (drop (i + 1) xs) t.1 t.0
 any_more xs i c n h = at_drop_more (λ l. any_net l c n) xs i blank h

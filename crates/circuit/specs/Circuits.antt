@@ -1,5 +1,5 @@
 -- The circuits on literals: each follows one on bits, gate by gate, and its order of gates is the order of its clauses.
-use Rattle.std.specs.Prelude.{ℕ, ◌+◌, cond, List, [], ◌∷◌, ◌++◌, length, nat_lt}
+use Rattle.std.specs.Prelude.{ℕ, ◌+◌, Bool, true, false, cond, List, [], ◌∷◌, ◌++◌, length, nat_lt}
 use Rattle.circuit.specs.declared.shifting.Direction.{Direction}
 use Rattle.circuit.specs.declared.shifting.Direction.TheVariants.{Left, Right}
 use Rattle.words.specs.declared.UnaryOp.{UnaryOp}
@@ -17,6 +17,11 @@ use Rattle.circuit.specs.Gates.{and_net, or_net, xor_net, majority_net, choice_n
 abbrev pub inverted : List Literal → List Literal
 inverted [] = []
 inverted (x ∷ xs) = negated x ∷ inverted xs
+
+-- the word, inverted if asked
+abbrev pub turned : Bool → List Literal → List Literal
+turned true xs = inverted xs
+turned false xs = xs
 
 -- bit by bit
 abbrev pub bit_net : Bitwise → Literal → Literal → Net → Net × Literal

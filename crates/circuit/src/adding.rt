@@ -1,52 +1,64 @@
 // Sums of words by a ripple of carries.
-ghost use Rattle.std.specs.Prelude.{◌≡◌};
-ghost use Rattle.circuit.specs.Circuits.{full_net, add_net};
+ghost use Rattle.std.specs.Prelude.{◌≡◌, length, if◌then◌else◌};
+ghost use Rattle.clauses.specs.Literals.{negated};
+ghost use Rattle.circuit.specs.Circuits.{turned, full_net, add_net};
 ghost use Rattle.circuit.specs.Built.{Fits, Wrote};
 
-use crate::builder::{Builder, LOW};
+use crate::builder::Builder;
 use clauses::Literal;
 
-// A sum, of bits or of words, and what is carried out of it.
+// The sum of three bits.
 #[derive(Clone, Copy)]
-pub struct Sum<T> {
-    pub sum: T,
+pub struct Sum {
+    pub bit: Literal,
     pub carry: Literal,
+}
+
+// The literal, negated if asked.
+fn turn(literal: Literal, invert: bool) -> Literal
+    ensures { result ≡ (if invert then negated literal else literal) }
+{
+    if invert { literal.negated() } else { literal }
 }
 
 impl Builder<'_> {
     // A full adder.
-    pub fn full(&mut self, x: Literal, y: Literal, carry: Literal) -> Sum<Literal>
+    pub fn full(&mut self, x: Literal, y: Literal, carry: Literal) -> Sum
         requires { Fits self.old (full_net x y carry self.old.net).0 }
         ensures wrote { Wrote self.old self.new (full_net x y carry self.old.net).0 }
-        ensures bit { result.sum ≡ (full_net x y carry self.old.net).1.0 }
+        ensures bit { result.bit ≡ (full_net x y carry self.old.net).1.0 }
         ensures over { result.carry ≡ (full_net x y carry self.old.net).1.1 }
     {
         let half = self.xor(x, y);
-        let sum = self.xor(half, carry);
+        let bit = self.xor(half, carry);
         let over = self.majority(x, y, carry);
-        Sum { sum, carry: over }
+        Sum { bit, carry: over }
     }
 
-    // x + y and what is carried in.
-    pub fn add<const WIDTH: usize>(
+    // x + y and what is carried in, or x - y if y is inverted and 1 is carried in. Gives what is carried out.
+    pub fn add(
         &mut self,
-        x: &[Literal; WIDTH],
-        y: &[Literal; WIDTH],
+        x: &[Literal],
+        y: &[Literal],
+        invert: bool,
         carry: Literal,
-    ) -> Sum<[Literal; WIDTH]>
-        requires { Fits self.old (add_net x.now y.now carry self.old.net).0 }
-        ensures wrote { Wrote self.old self.new (add_net x.now y.now carry self.old.net).0 }
-        ensures sum { result.sum ≡ (add_net x.now y.now carry self.old.net).1.0 }
-        ensures over { result.carry ≡ (add_net x.now y.now carry self.old.net).1.1 }
+        out: &mut [Literal],
+    ) -> Literal
+        requires operand { length y.now ≡ length x.now }
+        requires word { length out.old ≡ length x.now }
+        requires room { Fits self.old (add_net x.now (turned invert y.now) carry self.old.net).0 }
+        ensures wrote { Wrote self.old self.new (add_net x.now (turned invert y.now) carry self.old.net).0 }
+        ensures sum { out.new ≡ (add_net x.now (turned invert y.now) carry self.old.net).1.0 }
+        ensures over { result ≡ (add_net x.now (turned invert y.now) carry self.old.net).1.1 }
     {
-        // written by its place: a proof knows nothing of what is written through a zip
-        let mut sum = [LOW; WIDTH];
         let mut over = carry;
+        // written by its place: a proof knows nothing of what is written through a zip
         for (i, (a, b)) in x.iter().zip(y).enumerate() {
-            let bits = self.full(*a, *b, over);
-            sum[i] = bits.sum;
+            let other = turn(*b, invert);
+            let bits = self.full(*a, other, over);
+            out[i] = bits.bit;
             over = bits.carry;
         }
-        Sum { sum, carry: over }
+        over
     }
 }

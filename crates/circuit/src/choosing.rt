@@ -1,13 +1,13 @@
 // Words bit by bit: a gate for each place.
-ghost use Rattle.std.specs.Prelude.{◌≡◌};
+ghost use Rattle.std.specs.Prelude.{◌≡◌, length};
 ghost use Rattle.circuit.specs.Circuits.{bit_net, bitwise_net, choose_net, ite_net};
 ghost use Rattle.circuit.specs.Built.{Fits, Wrote};
 
-use crate::builder::{Builder, LOW};
+use crate::builder::Builder;
 use crate::gates::Bitwise;
 use clauses::Literal;
 
-// A word that is made is written by its place: a proof knows nothing of what is written through a zip.
+// A word is written by its place: a proof knows nothing of what is written through a zip.
 impl Builder<'_> {
     // The gate of one place. It is data and no closure, since the definitions of nets speak of it by name.
     fn bit(&mut self, op: Bitwise, a: Literal, b: Literal) -> Literal
@@ -23,53 +23,40 @@ impl Builder<'_> {
     }
 
     // The gate at each place of x and y.
-    pub fn bitwise<const WIDTH: usize>(
-        &mut self,
-        op: Bitwise,
-        x: &[Literal; WIDTH],
-        y: &[Literal; WIDTH],
-    ) -> [Literal; WIDTH]
-        requires { Fits self.old (bitwise_net op x.now y.now self.old.net).0 }
+    pub fn bitwise(&mut self, op: Bitwise, x: &[Literal], y: &[Literal], out: &mut [Literal])
+        requires operand { length y.now ≡ length x.now }
+        requires word { length out.old ≡ length x.now }
+        requires room { Fits self.old (bitwise_net op x.now y.now self.old.net).0 }
         ensures wrote { Wrote self.old self.new (bitwise_net op x.now y.now self.old.net).0 }
-        ensures word { result ≡ (bitwise_net op x.now y.now self.old.net).1 }
+        ensures result { out.new ≡ (bitwise_net op x.now y.now self.old.net).1 }
     {
-        let mut word = [LOW; WIDTH];
         for (i, (a, b)) in x.iter().zip(y).enumerate() {
-            word[i] = self.bit(op, *a, *b);
+            out[i] = self.bit(op, *a, *b);
         }
-        word
     }
 
     // x if s, else y.
-    pub fn choose<const WIDTH: usize>(
-        &mut self,
-        s: Literal,
-        x: &[Literal; WIDTH],
-        y: &[Literal; WIDTH],
-    ) -> [Literal; WIDTH]
-        requires { Fits self.old (choose_net s x.now y.now self.old.net).0 }
+    pub fn choose(&mut self, s: Literal, x: &[Literal], y: &[Literal], out: &mut [Literal])
+        requires operand { length y.now ≡ length x.now }
+        requires word { length out.old ≡ length x.now }
+        requires room { Fits self.old (choose_net s x.now y.now self.old.net).0 }
         ensures wrote { Wrote self.old self.new (choose_net s x.now y.now self.old.net).0 }
-        ensures word { result ≡ (choose_net s x.now y.now self.old.net).1 }
+        ensures result { out.new ≡ (choose_net s x.now y.now self.old.net).1 }
     {
-        let mut word = [LOW; WIDTH];
         for (i, (a, b)) in x.iter().zip(y).enumerate() {
-            word[i] = self.choice(s, *a, *b);
+            out[i] = self.choice(s, *a, *b);
         }
-        word
     }
 
     // x if t has a 1, else y.
-    pub fn ite<const WIDTH: usize>(
-        &mut self,
-        t: &[Literal],
-        x: &[Literal; WIDTH],
-        y: &[Literal; WIDTH],
-    ) -> [Literal; WIDTH]
-        requires { Fits self.old (ite_net t.now x.now y.now self.old.net).0 }
+    pub fn ite(&mut self, t: &[Literal], x: &[Literal], y: &[Literal], out: &mut [Literal])
+        requires operand { length y.now ≡ length x.now }
+        requires word { length out.old ≡ length x.now }
+        requires room { Fits self.old (ite_net t.now x.now y.now self.old.net).0 }
         ensures wrote { Wrote self.old self.new (ite_net t.now x.now y.now self.old.net).0 }
-        ensures word { result ≡ (ite_net t.now x.now y.now self.old.net).1 }
+        ensures result { out.new ≡ (ite_net t.now x.now y.now self.old.net).1 }
     {
         let test = self.any(t);
-        self.choose(test, x, y)
+        self.choose(test, x, y, out);
     }
 }

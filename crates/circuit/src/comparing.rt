@@ -1,56 +1,53 @@
 // Comparisons of words: one literal that says how two words compare, or whether a word has a 1.
-ghost use Rattle.std.specs.Prelude.{◌≡◌};
+ghost use Rattle.std.specs.Prelude.{◌≡◌, length};
 ghost use Rattle.circuit.specs.Bits.{topped};
 ghost use Rattle.circuit.specs.Nets.{high, low};
-ghost use Rattle.circuit.specs.Circuits.{less_net, equal_net, any_net};
+ghost use Rattle.circuit.specs.Circuits.{borrow_net, less_net, equal_net, any_net};
 ghost use Rattle.circuit.specs.Parts.{equal_bit_net};
 ghost use Rattle.circuit.specs.Built.{Fits, Wrote};
 
 use crate::builder::{Builder, HIGH, LOW};
 use clauses::Literal;
 
-// x with the top bit of y.
-fn with_top_of<const WIDTH: usize>(x: &[Literal; WIDTH], y: &[Literal; WIDTH]) -> [Literal; WIDTH]
-    ensures { result ≡ topped x.now y.now }
-{
-    let mut word = *x;
-    if WIDTH > 0 {
-        word[WIDTH - 1] = y[WIDTH - 1];
-    }
-    word
-}
-
 impl Builder<'_> {
-    // Whether x is below y, without sign: whether x - y borrows.
-    pub fn less<const WIDTH: usize>(
-        &mut self,
-        x: &[Literal; WIDTH],
-        y: &[Literal; WIDTH],
-    ) -> Literal
-        requires { Fits self.old (less_net x.now y.now self.old.net).0 }
-        ensures wrote { Wrote self.old self.new (less_net x.now y.now self.old.net).0 }
-        ensures output { result ≡ (less_net x.now y.now self.old.net).1 }
+    // 0 if a borrow is left after x - y.
+    fn borrow(&mut self, x: &[Literal], y: &[Literal]) -> Literal
+        requires operand { length y.now ≡ length x.now }
+        requires room { Fits self.old (borrow_net x.now y.now high self.old.net).0 }
+        ensures wrote { Wrote self.old self.new (borrow_net x.now y.now high self.old.net).0 }
+        ensures output { result ≡ (borrow_net x.now y.now high self.old.net).1 }
     {
         let mut enough = HIGH;
         for (a, b) in x.iter().zip(y) {
             enough = self.majority(*a, b.negated(), enough);
         }
-        enough.negated()
+        enough
+    }
+
+    // Whether x is below y, without sign: whether x - y borrows.
+    pub fn less(&mut self, x: &[Literal], y: &[Literal]) -> Literal
+        requires operand { length y.now ≡ length x.now }
+        requires room { Fits self.old (less_net x.now y.now self.old.net).0 }
+        ensures wrote { Wrote self.old self.new (less_net x.now y.now self.old.net).0 }
+        ensures output { result ≡ (less_net x.now y.now self.old.net).1 }
+    {
+        self.borrow(x, y).negated()
     }
 
     // Whether x is below y as two's complement: without sign once the top bits change places.
-    pub fn signed_less<const WIDTH: usize>(
-        &mut self,
-        x: &[Literal; WIDTH],
-        y: &[Literal; WIDTH],
-    ) -> Literal
-        requires { Fits self.old (less_net (topped x.now y.now) (topped y.now x.now) self.old.net).0 }
+    pub fn signed_less(&mut self, x: &[Literal], y: &[Literal]) -> Literal
+        requires operand { length y.now ≡ length x.now }
+        requires room { Fits self.old (less_net (topped x.now y.now) (topped y.now x.now) self.old.net).0 }
         ensures wrote { Wrote self.old self.new (less_net (topped x.now y.now) (topped y.now x.now) self.old.net).0 }
         ensures output { result ≡ (less_net (topped x.now y.now) (topped y.now x.now) self.old.net).1 }
     {
-        let left = with_top_of(x, y);
-        let right = with_top_of(y, x);
-        self.less(&left, &right)
+        if x.len() == 0 {
+            return LOW;
+        }
+        let top = x.len() - 1;
+        let below = self.borrow(&x[..top], &y[..top]);
+        let enough = self.majority(y[top], x[top].negated(), below);
+        enough.negated()
     }
 
     // Whether two bits are equal, and the bits so far.
@@ -65,12 +62,9 @@ impl Builder<'_> {
     }
 
     // Whether x and y are equal.
-    pub fn equal<const WIDTH: usize>(
-        &mut self,
-        x: &[Literal; WIDTH],
-        y: &[Literal; WIDTH],
-    ) -> Literal
-        requires { Fits self.old (equal_net x.now y.now high self.old.net).0 }
+    pub fn equal(&mut self, x: &[Literal], y: &[Literal]) -> Literal
+        requires operand { length y.now ≡ length x.now }
+        requires room { Fits self.old (equal_net x.now y.now high self.old.net).0 }
         ensures wrote { Wrote self.old self.new (equal_net x.now y.now high self.old.net).0 }
         ensures output { result ≡ (equal_net x.now y.now high self.old.net).1 }
     {

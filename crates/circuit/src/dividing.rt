@@ -32,19 +32,20 @@ impl Builder<'_> {
     }
 
     // No bits of x and y meet at a place that their product's word doesn't have.
-    fn separate<const WIDTH: usize>(&mut self, x: &[Literal; WIDTH], y: &[Literal; WIDTH])
-        requires { Fits self.old (apart_net x.now y.now self.old.net) }
+    fn separate(&mut self, x: &[Literal], y: &[Literal])
+        requires operand { length y.now ≡ length x.now }
+        requires room { Fits self.old (apart_net x.now y.now self.old.net) }
         ensures { Wrote self.old self.new (apart_net x.now y.now self.old.net) }
     {
-        let word: &[Literal] = x;
         for (i, bit) in y.iter().rev().enumerate() {
-            self.exclude(*bit, &word[i + 1..]);
+            self.exclude(*bit, &x[i + 1..]);
         }
     }
 
     // x and y are equal.
-    fn equate<const WIDTH: usize>(&mut self, x: &[Literal; WIDTH], y: &[Literal; WIDTH])
-        requires { Fits self.old (equated_net x.now y.now self.old.net) }
+    fn equate(&mut self, x: &[Literal], y: &[Literal])
+        requires operand { length y.now ≡ length x.now }
+        requires room { Fits self.old (equated_net x.now y.now self.old.net) }
         ensures { Wrote self.old self.new (equated_net x.now y.now self.old.net) }
     {
         for (a, b) in x.iter().zip(y) {
@@ -64,28 +65,23 @@ impl Builder<'_> {
     }
 
     // The product and the remainder have the sum x, with nothing carried out.
-    fn sums<const WIDTH: usize>(
-        &mut self,
-        product: &[Literal; WIDTH],
-        remainder: &[Literal; WIDTH],
-        x: &[Literal; WIDTH],
-    )
-        requires { Fits self.old (sums_net product.now remainder.now x.now self.old.net) }
+    fn sums(&mut self, product: &[Literal], remainder: &[Literal], x: &[Literal])
+        requires short { length x.now ≤ 64 }
+        requires product { length product.now ≡ length x.now }
+        requires remainder { length remainder.now ≡ length x.now }
+        requires room { Fits self.old (sums_net product.now remainder.now x.now self.old.net) }
         ensures { Wrote self.old self.new (sums_net product.now remainder.now x.now self.old.net) }
     {
-        let total = self.add(product, remainder, LOW);
-        self.clause(&[total.carry.negated()]);
-        self.equate(&total.sum, x);
+        let mut buffer = [LOW; 64];
+        let over = self.add(product, remainder, false, LOW, &mut buffer[..x.len()]);
+        self.clause(&[over.negated()]);
+        self.equate(&buffer[..x.len()], x);
     }
 
     // The remainder is below y, or y is 0 and the quotient all ones.
-    fn bounds<const WIDTH: usize>(
-        &mut self,
-        remainder: &[Literal; WIDTH],
-        y: &[Literal; WIDTH],
-        quotient: &[Literal; WIDTH],
-    )
-        requires { Fits self.old (bounded_net remainder.now y.now quotient.now self.old.net) }
+    fn bounds(&mut self, remainder: &[Literal], y: &[Literal], quotient: &[Literal])
+        requires operand { length y.now ≡ length remainder.now }
+        requires room { Fits self.old (bounded_net remainder.now y.now quotient.now self.old.net) }
         ensures { Wrote self.old self.new (bounded_net remainder.now y.now quotient.now self.old.net) }
     {
         let less = self.less(remainder, y);
@@ -96,16 +92,21 @@ impl Builder<'_> {
 
     // x divided by y has this quotient and this remainder, where the product is that of y and the
     // quotient, and the carries are those out of its rows.
-    pub fn divides<const WIDTH: usize>(
+    pub fn divides(
         &mut self,
-        x: &[Literal; WIDTH],
-        y: &[Literal; WIDTH],
-        quotient: &[Literal; WIDTH],
-        remainder: &[Literal; WIDTH],
-        product: &[Literal; WIDTH],
+        x: &[Literal],
+        y: &[Literal],
+        quotient: &[Literal],
+        remainder: &[Literal],
+        product: &[Literal],
         carries: &[Literal],
     )
-        requires { Fits self.old (divides_net x.now y.now quotient.now remainder.now product.now carries.now self.old.net) }
+        requires short { length x.now ≤ 64 }
+        requires operand { length y.now ≡ length x.now }
+        requires quotient { length quotient.now ≡ length x.now }
+        requires remainder { length remainder.now ≡ length x.now }
+        requires product { length product.now ≡ length x.now }
+        requires room { Fits self.old (divides_net x.now y.now quotient.now remainder.now product.now carries.now self.old.net) }
         ensures { Wrote self.old self.new (divides_net x.now y.now quotient.now remainder.now product.now carries.now self.old.net) }
     {
         self.deny(carries);

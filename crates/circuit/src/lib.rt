@@ -17,5 +17,4 @@ mod shifting;
 pub use adding::Sum;
 pub use builder::{Builder, HIGH, LOW};
 pub use gates::{Bitwise, Folded};
-pub use operations::inverted;
 pub use shifting::Direction;

@@ -12,10 +12,10 @@ use clauses::Literal;
 
 impl Builder<'_> {
     // The sum of a bit of the rows above, a carry, and y if x.
-    fn row_bit(&mut self, x: Literal, y: Literal, above: Literal, carry: Literal) -> Sum<Literal>
+    fn row_bit(&mut self, x: Literal, y: Literal, above: Literal, carry: Literal) -> Sum
         requires { Fits self.old (row_bit_net x y above carry self.old.net).0 }
         ensures wrote { Wrote self.old self.new (row_bit_net x y above carry self.old.net).0 }
-        ensures bit { result.sum ≡ (row_bit_net x y above carry self.old.net).1.0 }
+        ensures bit { result.bit ≡ (row_bit_net x y above carry self.old.net).1.0 }
         ensures over { result.carry ≡ (row_bit_net x y above carry self.old.net).1.1 }
     {
         let both = self.and(x, y);
@@ -34,7 +34,7 @@ impl Builder<'_> {
         // by places, since a proof knows nothing of what is written through a zip with `iter_mut`
         for (i, bit) in y.iter().enumerate() {
             let sum = self.row_bit(x, *bit, word[i], over);
-            word[i] = sum.sum;
+            word[i] = sum.bit;
             over = sum.carry;
         }
         over
@@ -56,25 +56,26 @@ impl Builder<'_> {
         over
     }
 
-    // The product's word; the carries out of its rows are written beside it.
-    pub fn product<const WIDTH: usize>(
+    // The product's word, and the carries out of its rows.
+    pub fn product(
         &mut self,
-        x: &[Literal; WIDTH],
-        y: &[Literal; WIDTH],
-        carries: &mut [Literal; WIDTH],
-    ) -> [Literal; WIDTH]
-        requires { Fits self.old (product_net x.now y.now self.old.net).0 }
+        x: &[Literal],
+        y: &[Literal],
+        out: &mut [Literal],
+        carries: &mut [Literal],
+    )
+        requires operand { length y.now ≡ length x.now }
+        requires word { length out.old ≡ length x.now }
+        requires rows { length carries.old ≡ length x.now }
+        requires room { Fits self.old (product_net x.now y.now self.old.net).0 }
         ensures wrote { Wrote self.old self.new (product_net x.now y.now self.old.net).0 }
-        ensures word { result ≡ (product_net x.now y.now self.old.net).1.0 }
+        ensures result { out.new ≡ (product_net x.now y.now self.old.net).1.0 }
         ensures carries { carries.new ≡ (product_net x.now y.now self.old.net).1.1 }
     {
-        let mut word = [LOW; WIDTH];
-        let factor: &[Literal] = y;
-        let bits = &mut word[..];
+        let width = x.len();
         // by the place and not by x's bits, since the place cuts both other words
-        for i in (0..WIDTH).rev() {
-            carries[i] = self.product_row(x[i], &factor[0..WIDTH - i], &mut bits[i..WIDTH]);
+        for i in (0..width).rev() {
+            carries[i] = self.product_row(x[i], &y[0..width - i], &mut out[i..width]);
         }
-        word
     }
 }

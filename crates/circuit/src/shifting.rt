@@ -4,7 +4,7 @@ ghost use Rattle.circuit.specs.Bits.{moved};
 ghost use Rattle.circuit.specs.Circuits.{choose_net, shift_net};
 ghost use Rattle.circuit.specs.Built.{Fits, Wrote};
 
-use crate::builder::Builder;
+use crate::builder::{Builder, LOW};
 use clauses::Literal;
 
 // Where a word is moved to.
@@ -14,71 +14,78 @@ pub enum Direction {
     Right,
 }
 
-// x moved by so many places, with the incoming literal where no bit comes from.
-fn moved<const WIDTH: usize>(
+// Writes x moved by so many places, with the incoming literal where no bit comes from.
+fn write_moved(
     direction: Direction,
     incoming: Literal,
     places: usize,
-    x: &[Literal; WIDTH],
-) -> [Literal; WIDTH]
-    ensures { result ≡ moved direction incoming places x.now }
+    x: &[Literal],
+    out: &mut [Literal],
+)
+    requires { length out.old ≡ length x.now }
+    ensures { out.new ≡ moved direction incoming places x.now }
 {
-    let mut word = [incoming; WIDTH];
-    if places < WIDTH {
-        let from: &[Literal] = x;
-        let to = &mut word[..];
-        let kept = WIDTH - places;
+    let width = x.len();
+    out.fill(incoming);
+    if places < width {
+        let kept = width - places;
         match direction {
-            Direction::Left => to[places..].copy_from_slice(&from[..kept]),
-            Direction::Right => to[0..kept].copy_from_slice(&from[places..]),
+            Direction::Left => out[places..].copy_from_slice(&x[..kept]),
+            Direction::Right => out[..kept].copy_from_slice(&x[places..]),
         }
     }
-    word
 }
 
 impl Builder<'_> {
-    // x moved by so many places if s, else x.
-    fn stage<const WIDTH: usize>(
+    // The word moved by so many places if s.
+    fn stage(
         &mut self,
         direction: Direction,
         incoming: Literal,
         places: usize,
         s: Literal,
-        x: &[Literal; WIDTH],
-    ) -> [Literal; WIDTH]
-        requires { Fits self.old (choose_net s (moved direction incoming places x.now) x.now self.old.net).0 }
-        ensures wrote { Wrote self.old self.new (choose_net s (moved direction incoming places x.now) x.now self.old.net).0 }
-        ensures word { result ≡ (choose_net s (moved direction incoming places x.now) x.now self.old.net).1 }
+        word: &mut [Literal],
+    )
+        requires short { length word.old ≤ 64 }
+        requires room { Fits self.old (choose_net s (moved direction incoming places word.old) word.old self.old.net).0 }
+        ensures wrote { Wrote self.old self.new (choose_net s (moved direction incoming places word.old) word.old self.old.net).0 }
+        ensures result { word.new ≡ (choose_net s (moved direction incoming places word.old) word.old self.old.net).1 }
     {
-        let apart = moved(direction, incoming, places, x);
-        self.choose(s, &apart, x)
+        let width = word.len();
+        let mut before = [LOW; 64];
+        let mut apart = [LOW; 64];
+        before[..width].copy_from_slice(word);
+        write_moved(direction, incoming, places, word, &mut apart[..width]);
+        self.choose(s, &apart[..width], &before[..width], word);
     }
 
     // x moved to the left or to the right by count places, with the incoming literal where no bit comes
     // from. Once a stage would move everything out, one stage does for all the bits of the count that
     // are left.
-    pub fn shift<const WIDTH: usize>(
+    pub fn shift(
         &mut self,
         direction: Direction,
         incoming: Literal,
-        x: &[Literal; WIDTH],
+        x: &[Literal],
         count: &[Literal],
-    ) -> [Literal; WIDTH]
-        requires short { WIDTH ≤ 64 }
+        out: &mut [Literal],
+    )
+        requires short { length x.now ≤ 64 }
+        requires word { length out.old ≡ length x.now }
         requires room { Fits self.old (shift_net direction incoming (length x.now) 1 x.now count.now self.old.net).0 }
         ensures wrote { Wrote self.old self.new (shift_net direction incoming (length x.now) 1 x.now count.now self.old.net).0 }
-        ensures word { result ≡ (shift_net direction incoming (length x.now) 1 x.now count.now self.old.net).1 }
+        ensures result { out.new ≡ (shift_net direction incoming (length x.now) 1 x.now count.now self.old.net).1 }
     {
-        let mut word = *x;
+        out.copy_from_slice(x);
         let mut places = 1;
         for (i, bit) in count.iter().enumerate() {
-            if places >= WIDTH {
+            if places >= x.len() {
                 let past = self.any(&count[i..]);
-                return self.stage(direction, incoming, places, past, &word);
+                self.stage(direction, incoming, places, past, out);
+                return;
             }
-            word = self.stage(direction, incoming, places, *bit, &word);
+            self.stage(direction, incoming, places, *bit, out);
             places += places;
         }
-        word
     }
 }

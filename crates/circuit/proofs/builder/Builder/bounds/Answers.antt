@@ -1,4 +1,3 @@
-use Rattle.std.proofs.Common.{rules}
 use Rattle.std.proofs.Common.{◌≡◌, List, [], ◌∷◌, ap, ◌∙◌}
 use Rattle.clauses.specs.declared.literal.Literal.{Literal}
 use Rattle.clauses.specs.Literals.{negated}
@@ -14,37 +13,37 @@ two : {p q r s : Literal} → p ≡ q → r ≡ s → ◌≡◌ {A = List Litera
 two {p} {q} {r} {s} e f = ap (λ z. z ∷ r ∷ []) e ∙ ap (λ z. q ∷ z ∷ []) f
 
 pub less-less-requires : goal.less-less-requires
-less-less-requires g c =
+less-less-requires c =
     let l = less_net c.args.remainder.now c.args.y.now c.args.self.now.net in
     let a = any_net c.args.y.now low l.0 in
     let m = said (negated a.1 ∷ l.1 ∷ []) a.0 in
-    (search rules, fits_first (grows_then (any_grows c.args.y.now low l.0) (grows_then (said_grows (negated a.1 ∷ l.1 ∷ []) a.0) (unless_grows a.1 c.args.quotient.now m))) c.requires)
+    record { operand = c.requires.operand; room = fits_first (grows_then (any_grows c.args.y.now low l.0) (grows_then (said_grows (negated a.1 ∷ l.1 ∷ []) a.0) (unless_grows a.1 c.args.quotient.now m))) c.requires.room }
 
 pub any-some-requires : goal.any-some-requires
-any-some-requires g c =
+any-some-requires c =
     let l = less_net c.args.remainder.now c.args.y.now c.args.self.now.net in
     let a = any_net c.args.y.now low l.0 in
     let m = said (negated a.1 ∷ l.1 ∷ []) a.0 in
-    fits_next (λ k. (any_net c.args.y.now low k).0) c.less-less.ensures.wrote (grows_then (said_grows (negated a.1 ∷ l.1 ∷ []) a.0) (unless_grows a.1 c.args.quotient.now m)) c.requires
+    fits_next (λ k. (any_net c.args.y.now low k).0) c.less-less.ensures.wrote (grows_then (said_grows (negated a.1 ∷ l.1 ∷ []) a.0) (unless_grows a.1 c.args.quotient.now m)) c.requires.room
 
 pub clause-requires : goal.clause-requires
-clause-requires g c =
+clause-requires c =
     let l = less_net c.args.remainder.now c.args.y.now c.args.self.now.net in
     let a = any_net c.args.y.now low l.0 in
     let m = said (negated a.1 ∷ l.1 ∷ []) a.0 in
     let wrote = wrote_next (λ k. (any_net c.args.y.now low k).0) c.less-less.ensures.wrote c.any-some.ensures.wrote in
     let some = c.any-some.ensures.output ∙ ap (λ k. (any_net c.args.y.now low k).1) c.less-less.ensures.wrote.net in
-    fits_then said wrote (two (c.negated.ensures.value ∙ ap negated some) c.less-less.ensures.output) (unless_grows a.1 c.args.quotient.now m) c.requires
+    fits_then said wrote (two (c.negated.ensures.value ∙ ap negated some) c.less-less.ensures.output) (unless_grows a.1 c.args.quotient.now m) c.requires.room
 
 pub unless-requires : goal.unless-requires
-unless-requires g c =
+unless-requires c =
     let wrote = wrote_next (λ k. (any_net c.args.y.now low k).0) c.less-less.ensures.wrote c.any-some.ensures.wrote in
     let some = c.any-some.ensures.output ∙ ap (λ k. (any_net c.args.y.now low k).1) c.less-less.ensures.wrote.net in
     let both = wrote_then said wrote (two (c.negated.ensures.value ∙ ap negated some) c.less-less.ensures.output) c.clause.ensures in
-    fits_then (λ s k. unless_net s c.args.quotient.now k) both some (grows_same _) c.requires
+    fits_then (λ s k. unless_net s c.args.quotient.now k) both some (grows_same _) c.requires.room
 
 pub returns : goal.returns
-returns g c =
+returns c =
     let wrote = wrote_next (λ k. (any_net c.args.y.now low k).0) c.less-less.ensures.wrote c.any-some.ensures.wrote in
     let some = c.any-some.ensures.output ∙ ap (λ k. (any_net c.args.y.now low k).1) c.less-less.ensures.wrote.net in
     let both = wrote_then said wrote (two (c.negated.ensures.value ∙ ap negated some) c.less-less.ensures.output) c.clause.ensures in

@@ -8,13 +8,13 @@ use Rattle.circuit.proofs.Steps.{equal_next}
 use Rattle.circuit.proofs.builder.Builder.equal.Goals as goal
 
 pub equal_bit-so_far-requires : goal.equal_bit-so_far-requires
-equal_bit-so_far-requires g c =
+equal_bit-so_far-requires c =
     let t = equal_bit_net c.in-Some.a.now c.in-Some.b.now c.loop-a.so_far c.loop-a.self.net in
     let more = equal_next c.loop-a.so_far c.loop-a.self.net c.in-Some.ensures.steps in
-    loop_fits c.loop-a.invariant.0 (ap (λ r. r.0) (c.loop-a.invariant.1 ∙ more)) (equal_grows c.next.new.self.a.rest.now c.next.new.self.b.rest.now t.1 t.0) c.requires
+    loop_fits c.loop-a.invariant.0 (ap (λ r. r.0) (c.loop-a.invariant.1 ∙ more)) (equal_grows c.next.new.self.a.rest.now c.next.new.self.b.rest.now t.1 t.0) c.requires.room
 
 pub loop-a-preserved : goal.loop-a-preserved
-loop-a-preserved g c =
+loop-a-preserved c =
     let t = equal_bit_net c.in-Some.a.now c.in-Some.b.now c.loop-a.so_far c.loop-a.self.net in
     let more = equal_next c.loop-a.so_far c.loop-a.self.net c.in-Some.ensures.steps in (
       wrote_here c.loop-a.invariant.0 c.equal_bit-so_far.ensures.wrote,

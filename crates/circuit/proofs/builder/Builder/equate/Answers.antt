@@ -10,21 +10,21 @@ use Rattle.circuit.proofs.Clauses.{equated_next}
 use Rattle.circuit.proofs.builder.Builder.equate.Goals as goal
 
 pub clause-requires : goal.clause-requires
-clause-requires g c =
+clause-requires c =
     let first = said (c.negated.result ∷ c.in-Some.b.now ∷ []) c.loop-a.self.net in
     let second = said (c.in-Some.a.now ∷ negated c.in-Some.b.now ∷ []) first in
     let more = equated_next c.negated.result (negated c.in-Some.b.now) c.loop-a.self.net c.in-Some.ensures.steps c.negated.ensures.value refl in
-    loop_fits c.loop-a.invariant.0 (c.loop-a.invariant.1 ∙ more) (grows_then (said_grows (c.in-Some.a.now ∷ negated c.in-Some.b.now ∷ []) first) (equated_grows c.next.new.self.a.rest.now c.next.new.self.b.rest.now second)) c.requires
+    loop_fits c.loop-a.invariant.0 (c.loop-a.invariant.1 ∙ more) (grows_then (said_grows (c.in-Some.a.now ∷ negated c.in-Some.b.now ∷ []) first) (equated_grows c.next.new.self.a.rest.now c.next.new.self.b.rest.now second)) c.requires.room
 
 pub clause-requires-in-loop-a : goal.clause-requires-in-loop-a
-clause-requires-in-loop-a g c =
+clause-requires-in-loop-a c =
     let first = said (c.negated.result ∷ c.in-Some.b.now ∷ []) c.loop-a.self.net in
     let second = said (c.in-Some.a.now ∷ c.negated-in-loop-a.result ∷ []) first in
     let more = equated_next c.negated.result c.negated-in-loop-a.result c.loop-a.self.net c.in-Some.ensures.steps c.negated.ensures.value c.negated-in-loop-a.ensures.value in
-    fits_next (said (c.in-Some.a.now ∷ c.negated-in-loop-a.result ∷ [])) c.clause.ensures (equated_grows c.next.new.self.a.rest.now c.next.new.self.b.rest.now second) (loop_room c.loop-a.invariant.0 (c.loop-a.invariant.1 ∙ more) c.requires)
+    fits_next (said (c.in-Some.a.now ∷ c.negated-in-loop-a.result ∷ [])) c.clause.ensures (equated_grows c.next.new.self.a.rest.now c.next.new.self.b.rest.now second) (loop_room c.loop-a.invariant.0 (c.loop-a.invariant.1 ∙ more) c.requires.room)
 
 pub loop-a-preserved : goal.loop-a-preserved
-loop-a-preserved g c =
+loop-a-preserved c =
     let first = said (c.negated.result ∷ c.in-Some.b.now ∷ []) c.loop-a.self.net in
     let second = said (c.in-Some.a.now ∷ c.negated-in-loop-a.result ∷ []) first in
     let more = equated_next c.negated.result c.negated-in-loop-a.result c.loop-a.self.net c.in-Some.ensures.steps c.negated.ensures.value c.negated-in-loop-a.ensures.value in

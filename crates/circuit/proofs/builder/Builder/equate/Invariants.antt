@@ -4,4 +4,4 @@ use Rattle.circuit.specs.Built.{Wrote}
 use Rattle.circuit.proofs.builder.Builder.equate.Given as goal
 
 abbrev pub invariant-loop-a : goal.invariant-loop-a
-invariant-loop-a g l = Wrote l.initial.self l.self l.self.net × (equated_net l.x l.y l.initial.self.net ≡ equated_net l.a-iterator.a.rest.now l.a-iterator.b.rest.now l.self.net) × (length l.a-iterator.b.rest.now ≡ length l.a-iterator.a.rest.now)
+invariant-loop-a l = Wrote l.initial.self l.self l.self.net × (equated_net l.x l.y l.initial.self.net ≡ equated_net l.a-iterator.a.rest.now l.a-iterator.b.rest.now l.self.net) × (length l.a-iterator.b.rest.now ≡ length l.a-iterator.a.rest.now)

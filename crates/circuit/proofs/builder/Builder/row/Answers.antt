@@ -21,9 +21,9 @@ pub loop-i-preserved : goal.loop-i-preserved
 loop-i-preserved c =
     let t = row_bit_net c.args.x (get_or c.args.y.now c.loop-i.i blank) (get_or c.loop-i.word c.loop-i.i blank) c.loop-i.over c.loop-i.self.net in
     let more = row_more c.args.x c.args.y.now c.loop-i.word c.loop-i.i c.loop-i.over c.loop-i.self.net c.loop-i-test.true (omega arith) in
-    let new = set c.loop-i.word c.loop-i.i c.row_bit-sum.result.sum in
-    let next = bit_more (row_net c.args.x (drop (c.loop-i.i + 1) c.args.y.now) (drop (c.loop-i.i + 1) c.loop-i.word)) t c.loop-i.word c.loop-i.i c.loop-i.i (c.loop-i.i + 1) c.row_bit-sum.result.sum c.row_bit-sum.result.carry refl refl (omega arith) (c.loop-i.invariant.1 ∙ ap (after (take c.loop-i.i c.loop-i.word)) more) c.row_bit-sum.ensures.wrote c.row_bit-sum.ensures.bit c.row_bit-sum.ensures.over in
-    let same = drop-set-lt (c.loop-i.i + 1) c.loop-i.word c.loop-i.i c.row_bit-sum.result.sum (omega arith) in
+    let new = set c.loop-i.word c.loop-i.i c.row_bit-sum.result.bit in
+    let next = bit_more (row_net c.args.x (drop (c.loop-i.i + 1) c.args.y.now) (drop (c.loop-i.i + 1) c.loop-i.word)) t c.loop-i.word c.loop-i.i c.loop-i.i (c.loop-i.i + 1) c.row_bit-sum.result.bit c.row_bit-sum.result.carry refl refl (omega arith) (c.loop-i.invariant.1 ∙ ap (after (take c.loop-i.i c.loop-i.word)) more) c.row_bit-sum.ensures.wrote c.row_bit-sum.ensures.bit c.row_bit-sum.ensures.over in
+    let same = drop-set-lt (c.loop-i.i + 1) c.loop-i.word c.loop-i.i c.row_bit-sum.result.bit (omega arith) in
     (wrote_here c.loop-i.invariant.0 c.row_bit-sum.ensures.wrote, next ∙ ap (λ l. after (take (c.loop-i.i + 1) new) (row_net c.args.x (drop (c.loop-i.i + 1) c.args.y.now) l c.row_bit-sum.result.carry c.row_bit-sum.new.self.net)) (sym same))
 
 pub returns : goal.returns

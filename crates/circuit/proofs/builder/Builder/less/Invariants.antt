@@ -1,7 +1,0 @@
-use Rattle.std.proofs.Common.{◌≡◌, length}
-use Rattle.circuit.specs.Circuits.{borrow_net}
-use Rattle.circuit.specs.Built.{Wrote}
-use Rattle.circuit.proofs.builder.Builder.less.Given as goal
-
-abbrev pub invariant-loop-a : goal.invariant-loop-a
-invariant-loop-a g l = Wrote l.initial.self l.self l.self.net × (borrow_net l.x l.y l.initial.enough l.initial.self.net ≡ borrow_net l.a-iterator.a.rest.now l.a-iterator.b.rest.now l.enough l.self.net) × (length l.a-iterator.b.rest.now ≡ length l.a-iterator.a.rest.now)
