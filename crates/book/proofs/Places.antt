@@ -1,5 +1,6 @@
 -- Terms in nodes: what stays when nodes are added, and a root more.
 use Rattle.std.proofs.Common.{ℕ, ◌<◌, List, [], ◌∷◌, ◌++◌, length, ap, ◌∙◌, append_assoc, arith}
+use Rattle.terms.specs.Items.{nodes_of}
 use Rattle.std.proofs.lemmas.List.{get_or_append_left, length-append}
 use Rattle.terms.specs.declared.node.Node.{Node}
 use Rattle.terms.specs.declared.node.Node.TheVariants.{Any}
@@ -60,6 +61,6 @@ pushed_kept {node = node} p = record { more = node ∷ []; nodes = p.nodes; widt
 pub kept_trans : {x y z : RuleNodes} → Kept x y → Kept y z → Kept x z
 kept_trans {x} p q = record {
   more = p.more ++ q.more;
-  nodes = q.nodes ∙ ap (λ ns. ns ++ q.more) p.nodes ∙ append_assoc x.nodes.items p.more q.more;
+  nodes = q.nodes ∙ ap (λ ns. ns ++ q.more) p.nodes ∙ append_assoc (nodes_of x.nodes) p.more q.more;
   width = q.width ∙ p.width;
 }

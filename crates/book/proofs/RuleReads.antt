@@ -1,5 +1,6 @@
 -- Reading rules and a book: what a step of it shows, and what a fault shows.
 use Rattle.std.proofs.Common.{◌≡◌, ℕ, zero, suc, ◌+◌, ◌-◌, ◌^◌, ◌<◌, ◌≤◌, true, List, [], ◌∷◌, ◌++◌, length, get_or, take, codes, sym, refl, ap, ◌∙◌, subst, append_assoc, append-nil, arith}
+use Rattle.terms.specs.Items.{nodes_of, places_of}
 use Rattle.std.proofs.lemmas.List.{length-append, take_more, get_or_at}
 use Rattle.std.proofs.lemmas.Bool.{and_parts, and_from, le-leb, leb-true}
 use Rattle.words.specs.declared.Width.{Width}
@@ -75,7 +76,7 @@ split_terms (suc n) (e ∷ es) h =
     let k = r.3 in
     (e ∷ r.0, r.1, r.2, omega arith, ap (λ l. e ∷ l) r.4)
 
-pub rule_read : (s : List ℕ) (p m q n left : ℕ) (v : Width) (x y z : RuleNodes) (roots : List ℕ) → IsHeaderRead s p v n m → IsTermsRead s m (n + 2) 32 x y roots q left → x.width ≡ v → z.width ≡ y.width → z.nodes ≡ y.nodes → z.roots.items ≡ roots → IsRuleRead s p z q
+pub rule_read : (s : List ℕ) (p m q n left : ℕ) (v : Width) (x y z : RuleNodes) (roots : List ℕ) → IsHeaderRead s p v n m → IsTermsRead s m (n + 2) 32 x y roots q left → x.width ≡ v → z.width ≡ y.width → z.nodes ≡ y.nodes → places_of z.roots ≡ roots → IsRuleRead s p z q
 rule_read s p m q n left v x y z roots f t xw zw znodes zroots =
     let parts = split_terms n t.terms t.count in
     let r : Rule = record { width = v; needs = parts.0; from = parts.1; to = parts.2 } in
@@ -92,7 +93,7 @@ rule_read s p m q n left v x y z roots f t xw zw znodes zroots =
       ok = and_from _ _ (le-leb (length parts.0) 4 (omega arith)) (and_from _ _ (le-leb (ops_all (terms r)) 32 (omega arith)) (subst (λ l. ok_terms (bits v) l ≡ true) es (subst (λ u. ok_terms (bits u) t.terms ≡ true) xw t.ok)));
       represents = record {
         width = zw ∙ t.kept.width ∙ xw;
-        rooted = rw (znodes, zroots) (subst (λ l. Rooted y.nodes.items roots l) es t.rooted);
+        rooted = rw (znodes, zroots) (subst (λ l. Rooted (nodes_of y.nodes) roots l) es t.rooted);
       };
       longer = omega arith;
       within = t.within;

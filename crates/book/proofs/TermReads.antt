@@ -1,6 +1,6 @@
 -- Reading terms: what a step of it shows, and what a fault shows.
 use Rattle.std.proofs.Common.{◌≡◌, ℕ, ◌+◌, ◌^◌, ◌<◌, ◌≤◌, true, false, List, [], ◌∷◌, ◌++◌, length, get_or, sym, refl, ap, ◌∙◌, subst, append_assoc, append-nil, arith}
-use Rattle.arrayvec.specs.ArrayVec.{array_vec_len}
+use Rattle.terms.specs.Items.{nodes_of}
 use Rattle.std.proofs.lemmas.List.{length-append, get_or_at}
 use Rattle.std.proofs.lemmas.Bool.{and_parts, and_from, both_ways, ltb-true, lt-ltb}
 use Rattle.words.specs.declared.Width.{Width}
@@ -102,7 +102,7 @@ pub leaf_read : (s : List ℕ) (p m q left root : ℕ) (l : Leaf) (x x' : RuleNo
 leaf_read s p m q left root l x x' f t =
     let n = t.number in
     let none = leaf_ops l n in
-    let more = ap length t.pushed.nodes ∙ length-append x.nodes.items (leaf_node l n ∷ []) in
+    let more = ap length t.pushed.nodes ∙ length-append (nodes_of x.nodes) (leaf_node l n ∷ []) in
     let a = f.longer in
     let b = t.read.longer in
     let last = t.last in
@@ -114,7 +114,7 @@ leaf_read s p m q left root l x x' f t =
       longer = omega arith;
       within = t.read.within;
       rooted = omega arith;
-      stands = leaf_stands x'.nodes.items root n l (rw (t.pushed.nodes, last) (get_or_at x.nodes.items (leaf_node l n) [] (node.Any 0) _ refl));
+      stands = leaf_stands (nodes_of x'.nodes) root n l (rw (t.pushed.nodes, last) (get_or_at (nodes_of x.nodes) (leaf_node l n) [] (node.Any 0) _ refl));
       kept = pushed_kept t.pushed;
       size = omega arith;
     }
@@ -180,12 +180,12 @@ arity_few (Unary o) = omega arith
 arity_few (Binary o) = omega arith
 arity_few Ite = omega arith
 
-pub operation_read : (s : List ℕ) (p m q left left' : ℕ) (o : Operation) (x y z : RuleNodes) (roots : List ℕ) → At s p (token.Operation o) m → IsTermsRead s m (arity o) left x y roots q left' → Pushed y z (operation_node o roots) → IsTermRead s p (left + 1) x z (array_vec_len y.nodes) q left'
+pub operation_read : (s : List ℕ) (p m q left left' : ℕ) (o : Operation) (x y z : RuleNodes) (roots : List ℕ) → At s p (token.Operation o) m → IsTermsRead s m (arity o) left x y roots q left' → Pushed y z (operation_node o roots) → IsTermRead s p (left + 1) x z (length (nodes_of y.nodes)) q left'
 operation_read s p m q left left' o x y z roots f t push =
     let es = t.terms in
     let view = parts o es t.count in
     let some = applied_ops view in
-    let more = ap length push.nodes ∙ length-append y.nodes.items (operation_node o roots ∷ []) in
+    let more = ap length push.nodes ∙ length-append (nodes_of y.nodes) (operation_node o roots ∷ []) in
     let a = f.longer in
     let b = t.longer in
     let c = t.counted in
@@ -199,7 +199,7 @@ operation_read s p m q left left' o x y z roots f t push =
       longer = omega arith;
       within = t.within;
       rooted = omega arith;
-      stands = rw push.nodes (part_stands y.nodes.items roots view t.rooted);
+      stands = rw push.nodes (part_stands (nodes_of y.nodes) roots view t.rooted);
       kept = kept_trans t.kept (pushed_kept push);
       size = omega arith;
     }
@@ -259,7 +259,7 @@ one_term_more s p q q' n left left' left'' root x y z roots t u =
       counted = omega arith;
       longer = omega arith;
       within = u.within;
-      rooted = rooted_push z.nodes.items roots es root e (rw u.kept.nodes (rooted_kept y.nodes.items u.kept.more roots es t.rooted)) u.rooted u.stands;
+      rooted = rooted_push (nodes_of z.nodes) roots es root e (rw u.kept.nodes (rooted_kept (nodes_of y.nodes) u.kept.more roots es t.rooted)) u.rooted u.stands;
       kept = kept_trans t.kept u.kept;
       size = omega arith;
     }

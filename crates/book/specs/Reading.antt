@@ -1,6 +1,6 @@
 -- What comes of reading numbers, terms and rules from a place of a text on.
 use Rattle.std.specs.Prelude.{◌≡◌, ℕ, ◌+◌, ◌*◌, ◌^◌, ◌<◌, ◌≤◌, true, List, [], ◌∷◌, ◌++◌, length, codes, Result, MatchResult, ◌≢◌}
-use Rattle.arrayvec.specs.ArrayVec.{array_vec_len}
+use Rattle.terms.specs.Items.{nodes_of}
 use Rattle.words.specs.declared.Width.{Width}
 use Rattle.words.specs.Words.{bits}
 use Rattle.terms.specs.declared.node.Node.{Node}
@@ -28,12 +28,12 @@ NoNumber s p = (n : ℕ) (r : List (List ℕ)) → n < 2 ^ 64 → rest s p ≢ d
 -- the nodes of x are kept in x', which may have more, and so is its width
 pub record Kept (x x' : RuleNodes) : Type 0 where
   pub more : List Node
-  pub nodes : x'.nodes.items ≡ x.nodes.items ++ more
+  pub nodes : nodes_of x'.nodes ≡ nodes_of x.nodes ++ more
   pub width : x'.width ≡ x.width
 
 -- a node is added to x
 pub record Pushed (x x' : RuleNodes) (node : Node) : Type 0 where
-  pub nodes : x'.nodes.items ≡ x.nodes.items ++ node ∷ []
+  pub nodes : nodes_of x'.nodes ≡ nodes_of x.nodes ++ node ∷ []
   pub width : x'.width ≡ x.width
 
 -- from p to q the text has the number of a leaf of this kind, whose node is added
@@ -42,7 +42,7 @@ pub record IsLeafRead (s : List ℕ) (p : ℕ) (l : Leaf) (x x' : RuleNodes) (ro
   pub read : IsNumberRead s p number q
   pub ok : ok_term (bits x.width) (leaf_term l number) ≡ true
   pub pushed : Pushed x x' (leaf_node l number)
-  pub last : root ≡ array_vec_len x.nodes
+  pub last : root ≡ length (nodes_of x.nodes)
 
 abbrev pub NoLeaf : List ℕ → ℕ → Leaf → Width → Type 0
 NoLeaf s p l v = (n : ℕ) (r : List (List ℕ)) → ok_term (bits v) (leaf_term l n) ≡ true → rest s p ≢ decimal n ∷ r
@@ -55,10 +55,10 @@ pub record IsTermRead (s : List ℕ) (p left : ℕ) (x x' : RuleNodes) (root q l
   pub counted : ops term + left' ≡ left
   pub longer : p < q
   pub within : q ≤ length s
-  pub rooted : root < array_vec_len x'.nodes
-  pub stands : Stands x'.nodes.items root term
+  pub rooted : root < length (nodes_of x'.nodes)
+  pub stands : Stands (nodes_of x'.nodes) root term
   pub kept : Kept x x'
-  pub size : array_vec_len x'.nodes ≤ array_vec_len x.nodes + (3 * ops term + 1)
+  pub size : length (nodes_of x'.nodes) ≤ length (nodes_of x.nodes) + (3 * ops term + 1)
 
 abbrev pub NoTerm : List ℕ → ℕ → ℕ → Width → Type 0
 NoTerm s p left v = (e : Term) (r : List (List ℕ)) → ok_term (bits v) e ≡ true → ops e ≤ left → rest s p ≢ write_term e ++ r
@@ -72,9 +72,9 @@ pub record IsTermsRead (s : List ℕ) (p n left : ℕ) (x x' : RuleNodes) (roots
   pub counted : ops_all terms + left' ≡ left
   pub longer : p ≤ q
   pub within : q ≤ length s
-  pub rooted : Rooted x'.nodes.items roots terms
+  pub rooted : Rooted (nodes_of x'.nodes) roots terms
   pub kept : Kept x x'
-  pub size : array_vec_len x'.nodes ≤ array_vec_len x.nodes + (3 * ops_all terms + n)
+  pub size : length (nodes_of x'.nodes) ≤ length (nodes_of x.nodes) + (3 * ops_all terms + n)
 
 abbrev pub NoTerms : List ℕ → ℕ → ℕ → ℕ → Width → Type 0
 NoTerms s p n left v = (es : List Term) (r : List (List ℕ)) → length es ≡ n → ok_terms (bits v) es ≡ true → ops_all es ≤ left → rest s p ≢ write_terms es ++ r

@@ -4,7 +4,7 @@
 // as a term has operations one inside the other, and a rule has at most 32 operations in all: more are
 // refused before they are read.
 ghost use Rattle.std.specs.Prelude.{◌≡◌, ℕ, ◌+◌, ◌*◌, ◌<◌, ◌≤◌, length, MatchResult, nat_le};
-ghost use Rattle.arrayvec.specs.ArrayVec.{array_vec_len};
+ghost use Rattle.terms.specs.Items.{nodes_of, places_of};
 ghost use Rattle.words.specs.Words.{bits};
 ghost use Rattle.terms.specs.Limits.{ok_term};
 ghost use Rattle.book.specs.Tokens.{arity, leaf_term, leaf_node, operation_node};
@@ -13,8 +13,7 @@ ghost use Rattle.book.specs.Reading.{IsLeafRead, NoLeaf, IsTermRead, NoTerm, IsT
 use crate::fault::{Fault, Reason};
 use crate::reader::Reader;
 use crate::token::{Leaf, Operation, Token};
-use arrayvec::ArrayVec;
-use terms::{Node, RuleNodes};
+use terms::{Node, RootList, RuleNodes};
 use words::Width;
 
 // A rule whose terms are being read, and how many operations it may still have.
@@ -73,7 +72,7 @@ impl Operation {
 impl Reader<'_> {
     // Reads the number of a leaf.
     fn leaf(&mut self, leaf: Leaf, rule: &mut RuleNodes) -> Result<usize, Fault>
-        requires { array_vec_len rule.old.nodes < 102 }
+        requires { length (nodes_of rule.old.nodes) < 102 }
         ensures text { self.new.text.now ≡ self.old.text.now }
         ensures read { MatchResult result (λ root. IsLeafRead self.old.text.now self.old.at leaf rule.old rule.new root self.new.at) (λ _. NoLeaf self.old.text.now self.old.at leaf rule.old.width) }
     {
@@ -87,7 +86,7 @@ impl Reader<'_> {
     // Reads a term.
     #[cycle(term_terms)]
     fn term(&mut self, draft: &mut Draft) -> Result<usize, Fault>
-        requires { array_vec_len draft.old.rule.nodes + (3 * draft.old.left + 1) ≤ 102 }
+        requires { length (nodes_of draft.old.rule.nodes) + (3 * draft.old.left + 1) ≤ 102 }
         ensures text { self.new.text.now ≡ self.old.text.now }
         ensures read { MatchResult result (λ root. IsTermRead self.old.text.now self.old.at draft.old.left draft.old.rule draft.new.rule root self.new.at draft.new.left) (λ _. NoTerm self.old.text.now self.old.at draft.old.left draft.old.rule.width) }
     {
@@ -107,17 +106,13 @@ impl Reader<'_> {
 
     // Reads so many terms.
     #[cycle(term_terms)]
-    pub(crate) fn terms(
-        &mut self,
-        count: usize,
-        draft: &mut Draft,
-    ) -> Result<ArrayVec<usize, 6>, Fault>
+    pub(crate) fn terms(&mut self, count: usize, draft: &mut Draft) -> Result<RootList, Fault>
         requires count { count ≤ 6 }
-        requires room { array_vec_len draft.old.rule.nodes + (3 * draft.old.left + count) ≤ 102 }
+        requires room { length (nodes_of draft.old.rule.nodes) + (3 * draft.old.left + count) ≤ 102 }
         ensures text { self.new.text.now ≡ self.old.text.now }
-        ensures read { MatchResult result (λ roots. IsTermsRead self.old.text.now self.old.at count draft.old.left draft.old.rule draft.new.rule roots.items self.new.at draft.new.left) (λ _. NoTerms self.old.text.now self.old.at count draft.old.left draft.old.rule.width) }
+        ensures read { MatchResult result (λ roots. IsTermsRead self.old.text.now self.old.at count draft.old.left draft.old.rule draft.new.rule (places_of roots) self.new.at draft.new.left) (λ _. NoTerms self.old.text.now self.old.at count draft.old.left draft.old.rule.width) }
     {
-        let mut roots = ArrayVec::new();
+        let mut roots = RootList::new();
         for _ in 0..count {
             roots.push(self.term(draft)?);
         }

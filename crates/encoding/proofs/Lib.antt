@@ -1,4 +1,5 @@
 -- The table of a rule's words has the rule's values, and its clauses are met exactly where the rule fails.
+pub mod Filling
 pub mod Tables
 pub mod Commuting
 pub mod Placing

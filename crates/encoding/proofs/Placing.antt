@@ -62,7 +62,7 @@ made_more w t u n (Unary o i) le m = operand_more t u n i le m
 made_more w t u n (Binary o i j) le m = (m.0, operand_more t u n i le m.1, operand_more t u n j le m.2)
 made_more w t u n (Ite h i j) le m = (operand_more t u n h le m.0, operand_more t u n i le m.1, operand_more t u n j le m.2)
 made_more w t u n (Divide i j) le m = (operand_more t u n i le m.0, operand_more t u n j le m.1)
-made_more w t u n (Part k p) le m = (m.0, ap is_division (get_or_append_left t u (Any 0) k (omega (arith, m.0))) ∙ m.1)
+made_more w t u n (Part k p) le m = (m.0, m.1, ap is_division (get_or_append_left t u (Any 0) k (omega (arith, m.0))) ∙ m.2)
 
 made_push : (w : ℕ) (t : List Entry) (e : Entry) → WellMade w t → MadeAt w t (length t) e → WellMade w (t ++ (e ∷ []))
 made_push w t e made m i lt = elim (cases_lt i (length t)) [

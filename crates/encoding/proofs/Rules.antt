@@ -1,5 +1,6 @@
 -- The terms of a rule are numbered one after the other.
 use Rattle.std.proofs.Common.{◌≡◌, ℕ, ◌+◌, ◌*◌, ◌<◌, ◌≤◌, true, List, [], ◌∷◌, ◌++◌, length, get_or, drop, sym, refl, ap, ◌∙◌, arith}
+use Rattle.terms.specs.Items.{nodes_of, places_of}
 use Rattle.std.proofs.lemmas.List.{append_assoc, append-nil, length-append, drop_more, drop_all}
 use Rattle.terms.specs.declared.rule.RuleNodes.{RuleNodes}
 use Rattle.terms.specs.Limits.{ok_rule}
@@ -37,15 +38,15 @@ pub record NumberedSoFar (x : RuleNodes) (k : ℕ) (t : List Entry) (places : Li
   pub rest : (r : Rule) → Represents x r → numbered_all (terms r) [] ≡ ((numbered_all (drop k (terms r)) t).0, places ++ (numbered_all (drop k (terms r)) t).1)
   pub room : (r : Rule) → Represents x r → ok_rule r ≡ true → length t + entries_all (drop k (terms r)) ≤ 134
 
-length_terms : (x : RuleNodes) (r : Rule) → Represents x r → length (terms r) ≡ length x.roots.items
-length_terms x r rep = sym (rooted_count x.nodes.items x.roots.items (terms r) rep.rooted)
+length_terms : (x : RuleNodes) (r : Rule) → Represents x r → length (terms r) ≡ length (places_of x.roots)
+length_terms x r rep = sym (rooted_count (nodes_of x.nodes) (places_of x.roots) (terms r) rep.rooted)
 
 pub numbered_none : (x : RuleNodes) → NumberedSoFar x 0 [] []
 numbered_none x = record { rest = λ r rep. refl; room = λ r rep ok. omega (arith, rule_entries r ok) }
 
-module _ (x : RuleNodes) (k : ℕ) (lt : k < length x.roots.items) where
+module _ (x : RuleNodes) (k : ℕ) (lt : k < length (places_of x.roots)) where
   -- the term at root k
-  pub root_at : (r : Rule) → Represents x r → Root x (get_or x.roots.items k 0) (get_or (terms r) k (any 0))
+  pub root_at : (r : Rule) → Represents x r → Root x (get_or (places_of x.roots) k 0) (get_or (terms r) k (any 0))
   root_at r rep = term_root x r k rep (omega (arith, root_count x r rep))
 
   cut : (r : Rule) → Represents x r → drop k (terms r) ≡ get_or (terms r) k (any 0) ∷ drop (k + 1) (terms r)
@@ -54,7 +55,7 @@ module _ (x : RuleNodes) (k : ℕ) (lt : k < length x.roots.items) where
   pub root_room : (t : List Entry) (places : List ℕ) (r : Rule) → Represents x r → ok_rule r ≡ true → NumberedSoFar x k t places → length t + entries_in (get_or (terms r) k (any 0)) ≤ 134
   root_room t places r rep ok so = omega (arith, so.room r rep ok, ap entries_all (cut r rep))
 
-  pub numbered_more : (t t' : List Entry) (p : ℕ) (places : List ℕ) → NumberedSoFar x k t places → Numbers x.nodes.items (get_or x.roots.items k 0) t t' p → NumberedSoFar x (k + 1) t' (places ++ (p ∷ []))
+  pub numbered_more : (t t' : List Entry) (p : ℕ) (places : List ℕ) → NumberedSoFar x k t places → Numbers (nodes_of x.nodes) (get_or (places_of x.roots) k 0) t t' p → NumberedSoFar x (k + 1) t' (places ++ (p ∷ []))
   numbered_more t t' p places so now = record {
     rest = λ r rep.
         let e = get_or (terms r) k (any 0) in
@@ -67,7 +68,7 @@ module _ (x : RuleNodes) (k : ℕ) (lt : k < length x.roots.items) where
   }
 
 -- all terms
-pub numbered_all_lem : (x : RuleNodes) (k : ℕ) (t : List Entry) (places : List ℕ) (r : Rule) → length x.roots.items ≤ k → Represents x r → NumberedSoFar x k t places → numbered_all (terms r) [] ≡ (t, places)
+pub numbered_all_lem : (x : RuleNodes) (k : ℕ) (t : List Entry) (places : List ℕ) (r : Rule) → length (places_of x.roots) ≤ k → Represents x r → NumberedSoFar x k t places → numbered_all (terms r) [] ≡ (t, places)
 numbered_all_lem x k t places r h rep so =
     so.rest r rep
     ∙ (ap (λ ts. ((numbered_all ts t).0, places ++ (numbered_all ts t).1)) (drop_all k (terms r) (omega (arith, length_terms x r rep)))

@@ -4,7 +4,7 @@ use Rattle.words.specs.declared.BinaryOp.{BinaryOp}
 use Rattle.words.specs.declared.BinaryOp.TheVariants.{Add, Sub, Mul, Udiv, Urem, And, Or, Xor, Shl, Lshr, Ashr, Comp, Ult, Slt}
 use Rattle.terms.specs.Terms.{Term, any, con, lit, unary, binary, ite, load2, load, load_all}
 use Rattle.encoding.specs.declared.entry.DivisionWord.{DivisionWord}
-use Rattle.encoding.specs.declared.entry.DivisionWord.TheVariants.{Quotient, Remainder, Product}
+use Rattle.encoding.specs.declared.entry.DivisionWord.TheVariants.{Quotient, Remainder, Product, Other}
 use Rattle.encoding.specs.declared.entry.Entry.{Entry}
 use Rattle.encoding.specs.declared.entry.Entry.TheVariants.{Any, Con, Number, Unary, Binary, Ite, Divide, Part}
 use Rattle.encoding.specs.Sizes.{entry_load, table_load}
@@ -48,6 +48,7 @@ module _ (w : ℕ) where
   quotient_load t (Part k Quotient) i j = divider_load (get_or t k (Any 0)) k i j
   quotient_load t (Part k Remainder) i j = omega arith
   quotient_load t (Part k Product) i j = omega arith
+  quotient_load t (Part k (Other p)) i j = omega arith
 
   divided_load : (p : DivisionWord) (i j : ℕ) (t : List Entry) → table_load w (divided p i j t).0 ≤ table_load w t + 32 * (w * w)
   divided_load p i j t = let d = place (Divide i j) t in omega (arith, place_load (Divide i j) t, place_load (Part d.1 p) d.0)

@@ -8,7 +8,6 @@ use Rattle.circuit.proofs.Numbers.{length_bits_of}
 use Rattle.circuit.proofs.Products.{length_mul}
 use Rattle.circuit.proofs.OperationValues.{length_unary, length_binary, length_ite}
 use Rattle.encoding.specs.declared.entry.DivisionWord.{DivisionWord}
-use Rattle.encoding.specs.declared.entry.DivisionWord.TheVariants.{Quotient, Remainder, Product}
 use Rattle.encoding.specs.declared.entry.Entry.{Entry}
 use Rattle.encoding.specs.declared.entry.Entry.TheVariants.{Any, Con, Number, Unary, Binary, Ite, Divide, Part}
 use Rattle.encoding.specs.Values.{order, quotient_bits, remainder_bits, divide_bits, entry_bits, table_bits, is_division, Operand, MadeAt, WellMade}
@@ -90,14 +89,10 @@ module _ (w : ℕ) (env : ℕ → List Bool) where
   division_bits (Part k p) f = absurd (true≢false (sym f))
 
   module _ (long : (k : ℕ) → length (env k) ≡ w) where
-    last : (p : DivisionWord) → order p ≤ 2
-    last Quotient = omega arith
-    last Remainder = omega arith
-    last Product = omega arith
-
-    part_bits : (p : DivisionWord) (v : List Bool) → length v ≡ w + (w + w) → length (take w (drop (order p * w) v)) ≡ w
-    part_bits p v e =
-        let few : order p * w ≤ 2 * w = mul-le-mul_right w (last p) in
+    part_bits : (p : DivisionWord) (v : List Bool) → order p < 3 → length v ≡ w + (w + w) → length (take w (drop (order p * w) v)) ≡ w
+    part_bits p v lt e =
+        let last : order p ≤ 2 = omega arith in
+        let few : order p * w ≤ 2 * w = mul-le-mul_right w last in
         length-take w (drop (order p * w) v) ∙ min-eq_left (omega (arith, length-drop (order p * w) v))
 
     entry_width : (t : List Entry) (n : ℕ) (e : Entry) (vs : List (List Bool)) → MadeAt w t n e → ((i : ℕ) → i < n → length (get_or vs i []) ≡ bits_in (get_or t i (Any 0))) → length (entry_bits w env vs e) ≡ bits_in e
@@ -121,7 +116,7 @@ module _ (w : ℕ) (env : ℕ → List Bool) where
         let lp : length (mul_bits y q) ≡ w = length_mul y q (b ∙ sym lq) ∙ b in
         length-append q (r ++ mul_bits y q) ∙ omega (arith, length-append r (mul_bits y q), lq, lr, lp)
     entry_width t n (Part k p) vs m h =
-        part_bits p (get_or vs k []) (h k m.0 ∙ division_bits _ m.1)
+        part_bits p (get_or vs k []) m.1 (h k m.0 ∙ division_bits _ m.2)
 
     pub word_bits : (t : List Entry) → WellMade w t → (n : ℕ) → n ≤ length t → (i : ℕ) → i < n → length (get_or (words t) i []) ≡ bits_in (get_or t i (Any 0))
     word_bits t made zero le i h = absurd (omega arith)

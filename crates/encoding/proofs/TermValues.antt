@@ -14,7 +14,7 @@ use Rattle.circuit.proofs.Numbers.{val_lt, length_bits_of, val_bits_of}
 use Rattle.circuit.proofs.Products.{length_mul}
 use Rattle.circuit.proofs.OperationValues.{unary_right, binary_right, ite_right}
 use Rattle.encoding.specs.declared.entry.DivisionWord.{DivisionWord}
-use Rattle.encoding.specs.declared.entry.DivisionWord.TheVariants.{Quotient, Remainder, Product}
+use Rattle.encoding.specs.declared.entry.DivisionWord.TheVariants.{Quotient, Remainder, Product, Other}
 use Rattle.encoding.specs.declared.entry.Entry.{Entry}
 use Rattle.encoding.specs.declared.entry.Entry.TheVariants.{Any, Con, Number, Unary, Binary, Ite, Divide, Part}
 use Rattle.encoding.specs.Table.{place, sorted, by_divider, by_quotient, product, divided, operated, numbered}
@@ -103,18 +103,18 @@ module _ (w : ℕ) (pos : 0 < w) (env : ℕ → List Bool) (long : (k : ℕ) →
     val_remainder : val (remainder_bits w (at t i) (at t j)) ≡ do2 w Urem (val (at t i)) (val (at t j))
     val_remainder = val_bits_of w _ (do2_word w Urem (val (at t i)) (val (at t j)) pos (word i oi) (word j oj))
 
-    has_divided : (p : DivisionWord) (part : List Bool) (x : ℕ) → take w (drop (order p * w) (divide_bits w (at t i) (at t j))) ≡ part → val part ≡ x → Has t (divided p i j t) x
-    has_divided p part x is v =
+    has_divided : (p : DivisionWord) (part : List Bool) (x : ℕ) → order p < 3 → take w (drop (order p * w) (divide_bits w (at t i) (at t j))) ≡ part → val part ≡ x → Has t (divided p i j t) x
+    has_divided p part x lt is v =
         let d = placed w env t (Divide i j) made (oi, oj) in
         let r = place (Divide i j) t in
         has_after t r.0 d.rest (divided p i j t) x d.extends
-        (has_entry r.0 (Part r.1 p) x d.made (d.inside, ap is_division d.entry) refl (ap (λ v. val (take w (drop (order p * w) v))) d.word ∙ (ap val is ∙ v)))
+        (has_entry r.0 (Part r.1 p) x d.made (d.inside, lt, ap is_division d.entry) refl (ap (λ v. val (take w (drop (order p * w) v))) d.word ∙ (ap val is ∙ v)))
 
     has_quotient : Has t (divided Quotient i j t) (do2 w Udiv (val (at t i)) (val (at t j)))
-    has_quotient = has_divided Quotient _ _ (first_part _ (remainder_bits w (at t i) (at t j)) _ quotient_long remainder_long product_long) val_quotient
+    has_quotient = has_divided Quotient _ _ (omega arith) (first_part _ (remainder_bits w (at t i) (at t j)) _ quotient_long remainder_long product_long) val_quotient
 
     has_remainder : Has t (divided Remainder i j t) (do2 w Urem (val (at t i)) (val (at t j)))
-    has_remainder = has_divided Remainder _ _ (second_part (quotient_bits w (at t i) (at t j)) _ _ quotient_long remainder_long product_long) val_remainder
+    has_remainder = has_divided Remainder _ _ (omega arith) (second_part (quotient_bits w (at t i) (at t j)) _ _ quotient_long remainder_long product_long) val_remainder
 
   -- a product is made by itself, or it is the one of a division
   abbrev ByDivision : List Entry → ℕ → ℕ → Entry → Type 0
@@ -145,6 +145,7 @@ module _ (w : ℕ) (pos : 0 < w) (env : ℕ → List Bool) (long : (k : ℕ) →
   by_quotient_lem t i j (Part k Quotient) q = by_divider_lem t i j k (get_or t k (Any 0)) refl q
   by_quotient_lem t i j (Part k Remainder) q = inl refl
   by_quotient_lem t i j (Part k Product) q = inl refl
+  by_quotient_lem t i j (Part k (Other p)) q = inl refl
 
   module _ (t : List Entry) (made : WellMade w t) (i j : ℕ) (oi : Operand t (length t) i) (oj : Operand t (length t) j) where
     has_shared : (k x : ℕ) → get_or t j (Any 0) ≡ Part k Quotient → get_or t k (Any 0) ≡ Divide x i → Has t (place (Part k Product) t) (do2 w Mul (val (at t i)) (val (at t j)))
@@ -159,7 +160,7 @@ module _ (w : ℕ) (pos : 0 < w) (env : ℕ → List Bool) (long : (k : ℕ) →
         let lm = product_long t made x i ox oi in
         let wj : at t j ≡ quotient_bits w (at t x) (at t i) = word_is_entry w env t made j oj.0 ∙ (ap (entry_bits w env (words w env t)) ej ∙ (ap (λ v. take w (drop (0 * w) v)) wk ∙ first_part _ _ _ lq lr lm)) in
         let m : take w (drop (2 * w) (at t k)) ≡ mul_bits (at t i) (at t j) = ap (λ v. take w (drop (2 * w) v)) wk ∙ (third_part _ _ _ lq lr lm ∙ ap (mul_bits (at t i)) (sym wj)) in
-        has_entry t (Part k Product) _ made (kin, ap is_division ek) refl (ap val m ∙ binary_value t made i j oi oj Mul refl)
+        has_entry t (Part k Product) _ made (kin, omega arith, ap is_division ek) refl (ap val m ∙ binary_value t made i j oi oj Mul refl)
 
     has_ordered : Has t (place (product t i j) t) (do2 w Mul (val (at t i)) (val (at t j)))
     has_ordered = elim (by_quotient_lem t i j (get_or t j (Any 0)) refl) [

@@ -1,4 +1,5 @@
 -- The encoding of a rule as clauses: the definitions that the contracts cite.
+pub mod Lists
 pub mod Table
 pub mod Values
 pub mod Encode

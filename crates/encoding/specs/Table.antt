@@ -8,7 +8,7 @@ use Rattle.terms.specs.Terms.{Term, any, con, lit, unary, binary, ite}
 use Rattle.encoding.specs.declared.entry.Entry.{Entry}
 use Rattle.encoding.specs.declared.entry.Entry.TheVariants.{Any, Con, Number, Unary, Binary, Ite, Divide, Part}
 use Rattle.encoding.specs.declared.entry.DivisionWord.{DivisionWord}
-use Rattle.encoding.specs.declared.entry.DivisionWord.TheVariants.{Quotient, Remainder, Product}
+use Rattle.encoding.specs.declared.entry.DivisionWord.TheVariants.{Quotient, Remainder, Product, Other}
 use Rattle.encoding.specs.contracts.entry.EntryPartialEq.TheImpl as comparison
 
 -- whether two entries are one, as the type's comparison says
@@ -44,6 +44,7 @@ abbrev pub by_quotient : List Entry → Entry → ℕ → ℕ → Entry
 by_quotient t (Part k Quotient) i j = by_divider (slice_index_or t k (Any 0)) k i j
 by_quotient t (Part k Remainder) i j = Binary Mul i j
 by_quotient t (Part k Product) i j = Binary Mul i j
+by_quotient t (Part k (Other p)) i j = Binary Mul i j
 by_quotient t (Any x) i j = Binary Mul i j
 by_quotient t (Con x) i j = Binary Mul i j
 by_quotient t (Number x) i j = Binary Mul i j

@@ -4,7 +4,7 @@ use Rattle.words.specs.Words.{do2}
 use Rattle.words.specs.declared.BinaryOp.TheVariants.{Udiv, Urem}
 use Rattle.circuit.specs.Bits.{val, bits_of, mul_bits, ite_bits, unary_bits, binary_bits, divides}
 use Rattle.encoding.specs.declared.entry.DivisionWord.{DivisionWord}
-use Rattle.encoding.specs.declared.entry.DivisionWord.TheVariants.{Quotient, Remainder, Product}
+use Rattle.encoding.specs.declared.entry.DivisionWord.TheVariants.{Quotient, Remainder, Product, Other}
 use Rattle.encoding.specs.declared.entry.Entry.{Entry}
 use Rattle.encoding.specs.declared.entry.Entry.TheVariants.{Any, Con, Number, Unary, Binary, Ite, Divide, Part}
 
@@ -18,11 +18,12 @@ remainder_bits w xs ys = bits_of w (do2 w Urem (val xs) (val ys))
 abbrev pub divide_bits : ℕ → List Bool → List Bool → List Bool
 divide_bits w xs ys = quotient_bits w xs ys ++ (remainder_bits w xs ys ++ mul_bits ys (quotient_bits w xs ys))
 
--- the place of a word among those of its division
+-- the place of a word among the three of its division; after them come the numbers that name none
 abbrev pub order : DivisionWord → ℕ
 order Quotient = 0
 order Remainder = 1
 order Product = 2
+order (Other p) = 3 + p
 
 -- an entry's word, from the words of the names and of the entries before it
 abbrev pub entry_bits : ℕ → (ℕ → List Bool) → List (List Bool) → Entry → List Bool
@@ -63,7 +64,7 @@ MadeAt w t n (Unary o i) = Operand t n i
 MadeAt w t n (Binary o i j) = (divides o ≡ false) × Operand t n i × Operand t n j
 MadeAt w t n (Ite h i j) = Operand t n h × Operand t n i × Operand t n j
 MadeAt w t n (Divide i j) = Operand t n i × Operand t n j
-MadeAt w t n (Part k p) = (k < n) × (is_division (slice_index_or t k (Any 0)) ≡ true)
+MadeAt w t n (Part k p) = (k < n) × (order p < 3) × (is_division (slice_index_or t k (Any 0)) ≡ true)
 
 abbrev pub WellMade : ℕ → List Entry → Type 0
 WellMade w t = (i : ℕ) → i < length t → MadeAt w t i (slice_index_or t i (Any 0))

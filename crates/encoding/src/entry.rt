@@ -7,6 +7,8 @@ pub enum DivisionWord {
     Quotient,
     Remainder,
     Product,
+    // 3 and so many more, a number that names none of the three words; no entry of a rule has it
+    Other(usize),
 }
 
 // What an entry's word is, from the words of entries before it. There is no heap, so an entry names
@@ -22,11 +24,4 @@ pub enum Entry {
     // the three words of a division, one after the other
     Divide(usize, usize),
     Part(usize, DivisionWord),
-}
-
-// What fills the room for entries to come. A variant with data can't be the derived default.
-impl Default for Entry {
-    fn default() -> Entry {
-        Entry::Any(0)
-    }
 }

@@ -1,5 +1,6 @@
 // The numbering of terms: each term is an entry of the table, after the entries of its parts.
 ghost use Rattle.std.specs.Prelude.{◌≡◌, ℕ, ◌+◌, ◌<◌, ◌≤◌, true, [], length};
+ghost use Rattle.terms.specs.Items.{nodes_of, places_of};
 ghost use Rattle.terms.specs.Nodes.{Stands};
 ghost use Rattle.terms.specs.Limits.{ok_rule};
 ghost use Rattle.terms.specs.Represents.{Represents};
@@ -8,8 +9,7 @@ ghost use Rattle.encoding.specs.Table.{sorted, by_divider, product, divided, ope
 
 use crate::entry::{DivisionWord, Entry};
 use crate::table::Table;
-use arrayvec::ArrayVec;
-use terms::{Node, RuleNodes};
+use terms::{Node, RootList, RuleNodes};
 use words::BinaryOp;
 
 // An operation whose operands may be exchanged, with the earlier one first.
@@ -82,9 +82,9 @@ impl Table {
 
 // The place of the term at node i, which is numbered after its parts.
 pub fn number_term(rule: &RuleNodes, i: usize, table: &mut Table) -> usize
-    requires there { i < length rule.now.nodes.items }
-    requires room { (e : Term) × Stands rule.now.nodes.items i e × (length table.old + entries_in e ≤ 134) }
-    ensures { Numbers rule.now.nodes.items i table.old table.new result }
+    requires there { i < length (nodes_of rule.now.nodes) }
+    requires room { (e : Term) × Stands (nodes_of rule.now.nodes) i e × (length table.old + entries_in e ≤ 134) }
+    ensures { Numbers (nodes_of rule.now.nodes) i table.old table.new result }
 {
     let node = rule.node(i);
     match node {
@@ -110,20 +110,20 @@ pub fn number_term(rule: &RuleNodes, i: usize, table: &mut Table) -> usize
 }
 
 // The table of a rule, and the places of its terms.
-#[derive(Drop)]
+#[derive(Clone, Copy)]
 pub struct Numbering {
     pub table: Table,
-    pub places: ArrayVec<usize, 6>,
+    pub places: RootList,
 }
 
 // Numbers the terms of a rule: the needed ones, then the first side, then the second.
 pub fn number_rule(rule: &RuleNodes) -> Numbering
     requires { (r : Rule) × Represents rule.now r × (ok_rule r ≡ true) }
     ensures table { (r : Rule) → Represents rule.now r → result.table ≡ (numbered_all (terms r) []).0 }
-    ensures places { (r : Rule) → Represents rule.now r → result.places.items ≡ (numbered_all (terms r) []).1 }
+    ensures places { (r : Rule) → Represents rule.now r → places_of result.places ≡ (numbered_all (terms r) []).1 }
 {
     let mut table = Table::new();
-    let mut places = ArrayVec::new();
+    let mut places = RootList::new();
     for root in rule.roots.as_slice() {
         places.push(number_term(rule, *root, &mut table));
     }

@@ -1,11 +1,9 @@
 // The table of a rule's words: each entry once.
-ghost use Rattle.std.specs.Prelude.{◌≡◌, ◌+◌, ◌<◌, ◌≤◌, List, [], length, position, slice_index_or};
-ghost use Rattle.encoding.specs.declared.entry.Entry.{Entry as EntryValue};
+ghost use Rattle.std.specs.Prelude.{◌≡◌, ◌+◌, ◌<◌, ◌≤◌, [], length, position, slice_index_or};
 ghost use Rattle.encoding.specs.declared.entry.Entry.TheVariants.{Any};
 ghost use Rattle.encoding.specs.Table.{same, place};
 
 use crate::entry::Entry;
-use arrayvec::ArrayVec;
 use std::marker::Model;
 
 // A rule's terms have at most 32 operations. An operation makes two entries at most, a division and one
@@ -13,15 +11,31 @@ use std::marker::Model;
 // entries, and of the six terms at most 4 * 32 + 6.
 pub const MOST_ENTRIES: usize = 134;
 
-#[derive(Drop)]
+#[derive(Clone, Copy)]
 pub struct Table {
-    entries: ArrayVec<Entry, MOST_ENTRIES>,
+    entries: [Entry; MOST_ENTRIES],
+    len: usize,
 }
 
+// A place that holds no entry yet holds the blank, so that a table can be copied.
 impl Model for Table {
+    ghost use Rattle.std.specs.Prelude.{◌-◌, List, ◌++◌, length, take, replicate};
+    ghost use Rattle.encoding.specs.declared.entry.Entry.{Entry as EntryValue};
+    ghost use Rattle.encoding.specs.declared.entry.Entry.TheVariants.{Any};
+    ghost use Rattle.encoding.specs.Lists.{Filled, counted, refilled};
+
     ghost Value = { List EntryValue };
 
-    ghost view = { λ t. t.entries.items };
+    ghost view = { λ t. take t.len t.entries };
+
+    ghost invariant = { λ t. Filled 134 (Any 0) t.len t.entries };
+
+    ghost inverse = { λ items. record { entries = items ++ replicate (134 - length items) (Any 0); len = length items } };
+
+    ghost inverse_ok = { λ t filled i. record {
+      entries = refilled 134 (Any 0) t.len t.entries filled i;
+      len = counted 134 (Any 0) t.len t.entries filled i;
+    } };
 }
 
 impl Table {
@@ -30,15 +44,17 @@ impl Table {
         ensures { result ≡ [] }
     {
         Table {
-            entries: ArrayVec::new(),
+            entries: [Entry::Any(0); MOST_ENTRIES],
+            len: 0,
         }
     }
 
     // The entries, in the order in which they were made.
     pub fn entries(&self) -> &[Entry]
-        ensures { result.now ≡ self.now }
+        ensures value { result.now ≡ self.now }
+        ensures fits { length result.now ≤ 134 }
     {
-        self.entries.as_slice()
+        &self.entries[..self.len]
     }
 
     // The entry at place k, if there is one.
@@ -67,8 +83,9 @@ impl Table {
         match self.find(entry) {
             Some(i) => i,
             None => {
-                let end = self.entries.len();
-                self.entries.push(entry);
+                let end = self.len;
+                self.entries[end] = entry;
+                self.len += 1;
                 end
             }
         }

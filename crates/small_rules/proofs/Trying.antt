@@ -1,5 +1,6 @@
 -- What trying some values of a rule's names after the other says of the rule.
 use Rattle.std.proofs.Common.{◌≡◌, ℕ, ◌<◌, Bool, true, false, List, [], ◌∷◌, length, get_or, sym, refl, ◌∙◌, subst, inl, inr, arith}
+use Rattle.terms.specs.Items.{nodes_of, places_of}
 use Rattle.std.proofs.lemmas.Bool.{cases_eq}
 use Rattle.words.specs.Words.{bits}
 use Rattle.terms.specs.declared.rule.RuleNodes.{RuleNodes}
@@ -30,13 +31,13 @@ tried_none x anys cons v same za zc = record {
 abbrev pub Stood : RuleNodes → Assignment → Type 0
 Stood x v = (r : Rule) → Represents x r → Fails r (λ k. get_or v.any k 0) (λ k. get_or v.con k 0) → ⊥
 
-module _ (x : RuleNodes) (anys cons : List Bool) (v : Assignment) (m : Marked x.nodes.items (length x.nodes.items) anys cons) (t : Tried x anys cons v) (stood : Stood x v) where
+module _ (x : RuleNodes) (anys cons : List Bool) (v : Assignment) (m : Marked (nodes_of x.nodes) (length (nodes_of x.nodes)) anys cons) (t : Tried x anys cons v) (stood : Stood x v) where
   -- nor at others that are the same for the names in the rule
   stood_same : (r : Rule) → Represents x r → (a c : ℕ → ℕ) → Agree anys v.any 0 a → Agree cons v.con 0 c → Fails r a c → ⊥
   stood_same r rep a c p q f =
       let w = bits r.width in
-      let ns = x.nodes.items in
-      let ks = x.roots.items in
+      let ns = (nodes_of x.nodes) in
+      let ks = (places_of x.roots) in
       let b : ℕ → ℕ = λ k. get_or v.any k 0 in
       let d : ℕ → ℕ = λ k. get_or v.con k 0 in
       let any_same : Same anys b a = λ j lt u. sym (p j (omega arith) lt u) in

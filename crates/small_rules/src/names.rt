@@ -1,5 +1,6 @@
 // The names that stand in a rule.
 ghost use Rattle.std.specs.Prelude.{◌≡◌, true, length};
+ghost use Rattle.terms.specs.Items.{nodes_of};
 ghost use Rattle.small_rules.specs.Marks.{Marked, named, mark_any, mark_con};
 
 use terms::{Node, RuleNodes};
@@ -34,7 +35,7 @@ impl Names {
 
     // The names in the nodes of a rule.
     pub(crate) fn of(rule: &RuleNodes) -> Names
-        ensures { Marked rule.now.nodes.items (length rule.now.nodes.items) result.any result.con }
+        ensures { Marked (nodes_of rule.now.nodes) (length (nodes_of rule.now.nodes)) result.any result.con }
     {
         let mut names = Names::default();
         for node in rule.nodes.as_slice() {

@@ -1,5 +1,6 @@
 -- The values of nodes are those of the terms that they stand for.
 use Rattle.std.proofs.Common.{◌≡◌, ℕ, zero, suc, ◌+◌, ◌-◌, ◌^◌, ◌<◌, ◌≤◌, ◌≢◌, not, eqb, List, [], ◌∷◌, length, get_or, set, take, Decides, sym, ap, ◌∙◌, subst, inl, inr, arith}
+use Rattle.terms.specs.Items.{nodes_of, places_of}
 use Rattle.std.proofs.lemmas.List.{get_or-set_same, get_or-set_other, get_or-take, length-take-le}
 use Rattle.std.proofs.lemmas.Bool.{cases_eq, eqb-false, ne_eqb, not-true, not_from_false}
 use Rattle.words.specs.Words.{bits, do1}
@@ -42,7 +43,7 @@ words_before w xs n le all i lt = let below : i < n = omega (arith, length-take-
 
 -- what the nodes of a rule have as values
 abbrev pub Evaluated : RuleNodes → List ℕ → List ℕ → List ℕ → Type 0
-Evaluated x a c vs = (i : ℕ) (e : Term) → i < length x.nodes.items → Stands x.nodes.items i e → get_or vs i 0 ≡ eval (bits x.width) (λ k. get_or a k 0) (λ k. get_or c k 0) e
+Evaluated x a c vs = (i : ℕ) (e : Term) → i < length (nodes_of x.nodes) → Stands (nodes_of x.nodes) i e → get_or vs i 0 ≡ eval (bits x.width) (λ k. get_or a k 0) (λ k. get_or c k 0) e
 
 root_value : (x : RuleNodes) (r : Rule) (a c vs : List ℕ) (p : ℕ) (e : Term) → Evaluated x a c vs → Represents x r → Root x p e → get_or vs p 0 ≡ eval (bits r.width) (λ k. get_or a k 0) (λ k. get_or c k 0) e
 root_value x r a c vs p e all rep root = all p e root.0 root.1 ∙ ap (λ w. eval (bits w) (λ k. get_or a k 0) (λ k. get_or c k 0) e) rep.width
@@ -56,7 +57,7 @@ met_at w a c [] i h m = let z : ⊥ = omega arith in absurd z
 met_at w a c (e ∷ es) zero h m = m.0
 met_at w a c (e ∷ es) (suc i) h m = met_at w a c es i (omega arith) m.1
 
-module _ (x : RuleNodes) (r : Rule) (ks a c vs : List ℕ) (all : Evaluated x a c vs) (rep : Represents x r) (roots : ks ≡ x.roots.items) where
+module _ (x : RuleNodes) (r : Rule) (ks a c vs : List ℕ) (all : Evaluated x a c vs) (rep : Represents x r) (roots : ks ≡ (places_of x.roots)) where
   -- that no needed term is 0, as the roots tell it
   abbrev pub NeedsMet : Type 0
   NeedsMet = (k : ℕ) → k < length (take (length ks - 2) ks) → get_or vs (get_or (take (length ks - 2) ks) k 0) 0 ≢ 0

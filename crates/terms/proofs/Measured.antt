@@ -1,5 +1,6 @@
 -- The measures of nodes are those of the terms that they stand for.
 use Rattle.std.proofs.Common.{◌≡◌, ℕ, ◌+◌, ◌*◌, ◌^◌, ◌<◌, List, [], ◌∷◌, ◌++◌, length, get_or, sym, refl, ap, ◌∙◌, ap₂, arith}
+use Rattle.terms.specs.Items.{nodes_of}
 use lib.Bits.{bit_or, or_zero_l, or_zero_r}
 use Rattle.std.proofs.lemmas.Nat.Bits.{same_from_bits, bit_at_or}
 use Rattle.words.specs.declared.Width.{Width}
@@ -79,7 +80,7 @@ node_measure_lem w ns ms i (ite t x y) h all s =
 
 -- what the nodes of a rule have as measures
 abbrev pub Measured : RuleNodes → List Measure → Type 0
-Measured x ms = (i : ℕ) (e : Term) → i < length x.nodes.items → Stands x.nodes.items i e → get_or ms i nothing ≡ measure_of (bits x.width) e
+Measured x ms = (i : ℕ) (e : Term) → i < length (nodes_of x.nodes) → Stands (nodes_of x.nodes) i e → get_or ms i nothing ≡ measure_of (bits x.width) e
 
 pub root_measure : (x : RuleNodes) (r : Rule) (ms : List Measure) (p : ℕ) (e : Term) → Measured x ms → Represents x r → Root x p e → get_or ms p nothing ≡ measure_of (bits r.width) e
 root_measure x r ms p e all rep root = all p e root.0 root.1 ∙ ap (λ w. measure_of (bits w) e) rep.width

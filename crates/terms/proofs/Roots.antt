@@ -1,5 +1,6 @@
 -- The roots of a rule's nodes stand for the rule's terms.
 use Rattle.std.proofs.Common.{◌≡◌, ℕ, zero, suc, ◌+◌, ◌-◌, ◌<◌, List, [], ◌∷◌, length, get_or, take, refl, ap, ◌∙◌, arith}
+use Rattle.terms.specs.Items.{nodes_of, places_of}
 use Rattle.std.proofs.lemmas.List.{get_or_at, get_or_append_left, get_or-append-add, get_or-take, length-append, length-take-le}
 use Rattle.terms.specs.declared.node.Node.{Node}
 use Rattle.terms.specs.declared.rule.RuleNodes.{RuleNodes}
@@ -9,7 +10,7 @@ use Rattle.terms.specs.Terms.{Term, any, Rule, terms}
 
 -- the node at place p of a rule stands for a term
 abbrev pub Root : RuleNodes → ℕ → Term → Type 0
-Root x p e = (p < length x.nodes.items) × Stands x.nodes.items p e
+Root x p e = (p < length (nodes_of x.nodes)) × Stands (nodes_of x.nodes) p e
 
 -- the term at place i of those that are rooted
 pub rooted_at : (ns : List Node) (roots : List ℕ) (es : List Term) (i : ℕ) → i < length es → Rooted ns roots es → (get_or roots i 0 < length ns) × Stands ns (get_or roots i 0) (get_or es i (any 0))
@@ -26,14 +27,14 @@ rooted_count ns [] (e ∷ es) r = absurd r
 rooted_count ns (k ∷ ks) [] r = absurd r
 rooted_count ns (k ∷ ks) (e ∷ es) r = ap suc (rooted_count ns ks es r.1)
 
-pub root_count : (x : RuleNodes) (r : Rule) → Represents x r → length x.roots.items ≡ length r.needs + 2
-root_count x r rep = rooted_count x.nodes.items x.roots.items (terms r) rep.rooted ∙ length-append r.needs (r.from ∷ r.to ∷ [])
+pub root_count : (x : RuleNodes) (r : Rule) → Represents x r → length (places_of x.roots) ≡ length r.needs + 2
+root_count x r rep = rooted_count (nodes_of x.nodes) (places_of x.roots) (terms r) rep.rooted ∙ length-append r.needs (r.from ∷ r.to ∷ [])
 
-pub term_root : (x : RuleNodes) (r : Rule) (k : ℕ) → Represents x r → k < length r.needs + 2 → Root x (get_or x.roots.items k 0) (get_or (terms r) k (any 0))
-term_root x r k rep h = rooted_at x.nodes.items x.roots.items (terms r) k (omega (arith, length-append r.needs (r.from ∷ r.to ∷ []))) rep.rooted
+pub term_root : (x : RuleNodes) (r : Rule) (k : ℕ) → Represents x r → k < length r.needs + 2 → Root x (get_or (places_of x.roots) k 0) (get_or (terms r) k (any 0))
+term_root x r k rep h = rooted_at (nodes_of x.nodes) (places_of x.roots) (terms r) k (omega (arith, length-append r.needs (r.from ∷ r.to ∷ []))) rep.rooted
 
 -- of the roots, the last two are those of the sides, and the others those of the needed terms
-module _ (x : RuleNodes) (r : Rule) (ks : List ℕ) (rep : Represents x r) (e : ks ≡ x.roots.items) where
+module _ (x : RuleNodes) (r : Rule) (ks : List ℕ) (rep : Represents x r) (e : ks ≡ (places_of x.roots)) where
   pub count : length ks ≡ length r.needs + 2
   count = ap length e ∙ root_count x r rep
 

@@ -2,6 +2,7 @@
 pub mod Terms
 pub mod Limits
 pub mod Usable
+pub mod Items
 pub mod Nodes
 pub mod Represents
 pub mod Measures

@@ -1,6 +1,6 @@
 // The values of a rule's terms at given words for its names.
 ghost use Rattle.std.specs.Prelude.{◌≡◌, ℕ, ◌^◌, ◌<◌, true, ◌≢◌, ◌↔◌, length, Decides, IsTrue, EachIndex, All, slice_index};
-ghost use Rattle.arrayvec.specs.ArrayVec.{array_vec_len};
+ghost use Rattle.terms.specs.Items.{nodes_of};
 ghost use Rattle.words.specs.Words.{bits};
 ghost use Rattle.terms.specs.Nodes.{Stands, sound};
 ghost use Rattle.terms.specs.Represents.{Represents};
@@ -33,7 +33,7 @@ impl Assignment {
 // for those that are, since a root may be any place below 102.
 pub fn evaluate(rule: &RuleNodes, assignment: &Assignment, values: &mut [u64; 102])
     requires { assignment.now.width ≡ rule.now.width }
-    ensures { (i : ℕ) (e : Term) → i < array_vec_len rule.now.nodes → Stands rule.now.nodes.items i e → slice_index values.new i ≡ eval (bits rule.now.width) (λ k. slice_index assignment.now.any k) (λ k. slice_index assignment.now.con k) e }
+    ensures { (i : ℕ) (e : Term) → i < length (nodes_of rule.now.nodes) → Stands (nodes_of rule.now.nodes) i e → slice_index values.new i ≡ eval (bits rule.now.width) (λ k. slice_index assignment.now.any k) (λ k. slice_index assignment.now.con k) e }
 {
     let nodes = rule.nodes.as_slice();
     for (i, node) in nodes.iter().enumerate() {

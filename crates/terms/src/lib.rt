@@ -3,6 +3,7 @@
 
 mod assignment;
 mod evaluation;
+mod lists;
 mod measure;
 mod node;
 mod rule;
@@ -10,6 +11,7 @@ mod usability;
 
 pub use assignment::Assignment;
 pub use evaluation::{evaluate, fails_at, fails_at_with_room};
+pub use lists::{NodeList, RootList};
 pub use node::Node;
 pub use rule::RuleNodes;
 pub use usability::{usable, weight};

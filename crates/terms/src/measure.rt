@@ -1,6 +1,6 @@
 // The measures of a rule's terms: what the limits and the conditions of use speak of.
 ghost use Rattle.std.specs.Prelude.{◌≡◌, ℕ, ◌<◌, true, length, slice_index_or};
-ghost use Rattle.arrayvec.specs.ArrayVec.{array_vec_len};
+ghost use Rattle.terms.specs.Items.{nodes_of};
 ghost use Rattle.words.specs.Words.{bits};
 ghost use Rattle.terms.specs.Terms.{Term, Rule, load2};
 ghost use Rattle.terms.specs.Nodes.{Stands, sound};
@@ -107,7 +107,7 @@ fn node_measure(width: Width, node: Node, before: &[Measure]) -> Measure
 
 // The measures of the terms of all nodes.
 fn node_measures(rule: &RuleNodes) -> [Measure; 102]
-    ensures { (i : ℕ) (e : Term) → i < array_vec_len rule.now.nodes → Stands rule.now.nodes.items i e → slice_index_or result i nothing ≡ measure_of (bits rule.now.width) e }
+    ensures { (i : ℕ) (e : Term) → i < length (nodes_of rule.now.nodes) → Stands (nodes_of rule.now.nodes) i e → slice_index_or result i nothing ≡ measure_of (bits rule.now.width) e }
 {
     let mut all = [Measure::default(); 102];
     let nodes = rule.nodes.as_slice();

@@ -11,10 +11,3 @@ pub enum Node {
     Binary(BinaryOp, usize, usize),
     Ite(usize, usize, usize),
 }
-
-// What fills the room for nodes to come. A variant with data can't be the derived default.
-impl Default for Node {
-    fn default() -> Node {
-        Node::Any(0)
-    }
-}

@@ -2,65 +2,64 @@
 //
 // A rule has at most 32 operations, each with at most three parts, in at most six terms: four that
 // are needed and the two sides. So it has at most 3 * 32 + 6 = 102 nodes.
-ghost use Rattle.std.specs.Prelude.{◌≡◌, ◌<◌, true, [], ◌∷◌, ◌++◌, EachIndex, slice_index, slice_index_or};
-ghost use Rattle.arrayvec.specs.ArrayVec.{array_vec_len};
+ghost use Rattle.std.specs.Prelude.{◌≡◌, ◌<◌, true, [], ◌∷◌, ◌++◌, length, EachIndex, slice_index, slice_index_or};
+ghost use Rattle.terms.specs.Items.{nodes_of, places_of};
 ghost use Rattle.words.specs.Words.{bits};
 ghost use Rattle.terms.specs.Nodes.{AllSound, sound};
 
-use super::Node;
-use arrayvec::ArrayVec;
+use super::{Node, NodeList, RootList};
 use words::Width;
 
 // The rule's terms are the nodes at the roots: first the needed ones, then the first side, then the
 // second.
-#[derive(Drop)]
+#[derive(Clone, Copy)]
 pub struct RuleNodes {
     pub width: Width,
-    pub nodes: ArrayVec<Node, 102>,
-    pub roots: ArrayVec<usize, 6>,
-    ghost made: { AllSound (bits width) nodes.items },
-    ghost rooted: { EachIndex roots.items (λ k. slice_index roots.items k < 102) },
+    pub nodes: NodeList,
+    pub roots: RootList,
+    ghost made: { AllSound (bits width) (nodes_of nodes) },
+    ghost rooted: { EachIndex (places_of roots) (λ k. slice_index (places_of roots) k < 102) },
 }
 
 impl RuleNodes {
     // No nodes yet, and no terms.
     pub fn new(width: Width) -> RuleNodes
         ensures width { result.width ≡ width }
-        ensures nodes { result.nodes.items ≡ [] }
+        ensures nodes { nodes_of result.nodes ≡ [] }
     {
         RuleNodes {
             width,
-            nodes: ArrayVec::new(),
-            roots: ArrayVec::new(),
+            nodes: NodeList::new(),
+            roots: RootList::new(),
         }
     }
 
     // Adds a node, and gives its place.
     pub fn push(&mut self, node: Node) -> usize
-        requires room { array_vec_len self.old.nodes < 102 }
-        requires sound { sound (bits self.old.width) (array_vec_len self.old.nodes) node ≡ true }
-        ensures place { result ≡ array_vec_len self.old.nodes }
-        ensures nodes { self.new.nodes.items ≡ self.old.nodes.items ++ node ∷ [] }
-        ensures there { slice_index_or self.new.nodes.items result (Node.Any 0) ≡ node }
+        requires room { length (nodes_of self.old.nodes) < 102 }
+        requires sound { sound (bits self.old.width) (length (nodes_of self.old.nodes)) node ≡ true }
+        ensures place { result ≡ length (nodes_of self.old.nodes) }
+        ensures nodes { nodes_of self.new.nodes ≡ nodes_of self.old.nodes ++ node ∷ [] }
+        ensures there { slice_index_or (nodes_of self.new.nodes) result (Node.Any 0) ≡ node }
         ensures width { self.new.width ≡ self.old.width }
         ensures roots { self.new.roots ≡ self.old.roots }
     {
-        let place = self.nodes.len();
+        let place = self.nodes.as_slice().len();
         self.nodes.push(node);
         place
     }
 
     // The node at a place.
     pub fn node(&self, place: usize) -> Node
-        requires { place < array_vec_len self.now.nodes }
-        ensures { result ≡ slice_index_or self.now.nodes.items place (Node.Any 0) }
+        requires { place < length (nodes_of self.now.nodes) }
+        ensures { result ≡ slice_index_or (nodes_of self.now.nodes) place (Node.Any 0) }
     {
-        self.nodes[place]
+        self.nodes.as_slice()[place]
     }
 
     // Gives the rule its terms, by their roots.
-    pub fn set_roots(&mut self, roots: ArrayVec<usize, 6>)
-        requires { EachIndex roots.items (λ k. slice_index roots.items k < 102) }
+    pub fn set_roots(&mut self, roots: RootList)
+        requires { EachIndex (places_of roots) (λ k. slice_index (places_of roots) k < 102) }
         ensures roots { self.new.roots ≡ roots }
         ensures nodes { self.new.nodes ≡ self.old.nodes }
         ensures width { self.new.width ≡ self.old.width }

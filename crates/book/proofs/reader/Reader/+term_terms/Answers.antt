@@ -1,6 +1,6 @@
-use Rattle.std.proofs.Common.{◌≡◌, ◌+◌, ◌-◌, ◌<◌, lit<, ◌++◌, ◌∷◌, [], length, sym, ap, ◌∙◌, subst, arith}
+use Rattle.std.proofs.Common.{◌≡◌, ◌+◌, ◌-◌, ◌++◌, ◌∷◌, [], length, sym, ap, ◌∙◌, subst, arith}
+use Rattle.terms.specs.Items.{nodes_of, places_of}
 use Rattle.std.proofs.lemmas.Result.{MatchResult-from_err, MatchResult-weaker}
-use Rattle.arrayvec.specs.ArrayVec.{array_vec_len}
 use Rattle.words.specs.Words.{bits}
 use Rattle.terms.specs.Nodes.{sound}
 use Rattle.terms.proofs.Roots.{rooted_count}
@@ -35,8 +35,8 @@ term-push-requires-clause-sound t c =
     let op = c.in-Operation.op in
     let y = c.terms.new.draft.rule in
     let read = rw c.part_count.ensures at c.in_ok-parts-in-Operation.ensures.read in
-    ap (sound (bits y.width) (array_vec_len y.nodes)) (c.node.ensures ∙ ap (operation_node op) c.as_slice.ensures.value)
-    ∙ operation_sound (bits y.width) op y.nodes.items c.in_ok-parts-in-Operation.parts.items (parts op read.terms read.count) read.rooted
+    ap (sound (bits y.width) (length (nodes_of y.nodes))) (c.node.ensures ∙ ap (operation_node op) c.as_slice.ensures.value)
+    ∙ operation_sound (bits y.width) op (nodes_of y.nodes) (places_of c.in_ok-parts-in-Operation.parts) (parts op read.terms read.count) read.rooted
 
 pub term-returns-in-Leaf-clause-read : goal.term-returns-in-Leaf-clause-read
 term-returns-in-Leaf-clause-read t c =
@@ -56,13 +56,13 @@ term-returns-in_ok-parts-in-Operation-clause-read t c =
     let d = c.args.draft.now in
     let op = c.in-Operation.op in
     let y = c.terms.new.draft in
-    let roots = c.in_ok-parts-in-Operation.parts.items in
+    let roots = places_of c.in_ok-parts-in-Operation.parts in
     let z = c.push.new.self in
     let left : d.left - 1 + 1 ≡ d.left = omega arith in
     let read = rw (c.next.ensures.text, c.part_count.ensures) at c.in_ok-parts-in-Operation.ensures.read in
     let push = c.push.ensures in
     let node = c.node.ensures ∙ ap (operation_node op) c.as_slice.ensures.value in
-    let pushed : Pushed y.rule z (operation_node op roots) = record { nodes = push.nodes ∙ ap (λ n. y.rule.nodes.items ++ n ∷ []) node; width = push.width } in
+    let pushed : Pushed y.rule z (operation_node op roots) = record { nodes = push.nodes ∙ ap (λ n. nodes_of y.rule.nodes ++ n ∷ []) node; width = push.width } in
     subst (λ n. IsTermRead s.text.now s.at n d.rule z c.push.result c.terms.new.self.at y.left) left
     (subst (λ i. IsTermRead s.text.now s.at (d.left - 1 + 1) d.rule z i c.terms.new.self.at y.left) (sym push.place)
     (operation_read s.text.now s.at c.next.new.self.at c.terms.new.self.at (d.left - 1) y.left op d.rule y.rule z roots c.in-Operation.ensures.next.2 read pushed))
@@ -81,13 +81,12 @@ terms-returns-in_err-term-clause-read t c =
     let s = c.args.self.now in
     let d = c.args.draft.now in
     let none = rw c.loop.invariant.text at c.in_err-term.ensures.read in
-    MatchResult-from_err _ _ _ c.from_residual.ensures.0 (λ _. one_term_missing s.text.now s.at c.loop.self.at c.loop.counter c.args.count d.left c.loop.draft.left d.rule c.loop.draft.rule c.loop.roots.items c.loop-test.true c.loop.invariant.read none)
+    MatchResult-from_err _ _ _ c.from_residual.ensures.0 (λ _. one_term_missing s.text.now s.at c.loop.self.at c.loop.counter c.args.count d.left c.loop.draft.left d.rule c.loop.draft.rule (places_of c.loop.roots) c.loop-test.true c.loop.invariant.read none)
 
 pub terms-push-requires : goal.terms-push-requires
 terms-push-requires t c =
     let read = c.loop.invariant.read in
-    let few : array_vec_len c.loop.roots < 6 = omega (arith, rooted_count _ _ _ read.rooted, read.count, c.requires.count) in
-    (lit< tt, few)
+    record { room = omega (arith, rooted_count _ _ _ read.rooted, read.count, c.requires.count) }
 
 pub terms-loop-preserved : goal.terms-loop-preserved
 terms-loop-preserved t c =
@@ -98,5 +97,5 @@ terms-loop-preserved t c =
     record {
       text = c.in_ok-term.ensures.text ∙ c.loop.invariant.text;
       read = rw c.push.ensures.items
-          (one_term_more s.text.now s.at c.loop.self.at c.term.new.self.at c.loop.counter d.left c.loop.draft.left c.term.new.draft.left root d.rule c.loop.draft.rule c.term.new.draft.rule c.loop.roots.items c.loop.invariant.read one);
+          (one_term_more s.text.now s.at c.loop.self.at c.term.new.self.at c.loop.counter d.left c.loop.draft.left c.term.new.draft.left root d.rule c.loop.draft.rule c.term.new.draft.rule (places_of c.loop.roots) c.loop.invariant.read one);
     }

@@ -1,4 +1,5 @@
 use Rattle.std.proofs.Common.{◌≡◌, ◌+◌, ◌*◌}
+use Rattle.terms.specs.Items.{places_of}
 use Rattle.book.specs.Reading.{IsTermsRead}
 use Rattle.book.proofs.reader.Reader.+term_terms.Given as goal
 
@@ -12,5 +13,5 @@ decreases-terms l = 2 * l.draft.now.left + 1
 abbrev pub invariant-terms-loop : goal.invariant-terms-loop
 invariant-terms-loop l = record {
   text : l.self.text.now ≡ l.initial.self.text.now;
-  read : IsTermsRead l.initial.self.text.now l.initial.self.at l.counter l.initial.draft.left l.initial.draft.rule l.draft.rule l.roots.items l.self.at l.draft.left;
+  read : IsTermsRead l.initial.self.text.now l.initial.self.at l.counter l.initial.draft.left l.initial.draft.rule l.draft.rule (places_of l.roots) l.self.at l.draft.left;
 }
