@@ -1,10 +1,8 @@
 -- Storing a clause in the gap, from elsewhere or from the arena itself.
-use Rattle.std.proofs.Common.{◌≡◌, ℕ, ◌+◌, ◌-◌, ◌<◌, ◌≤◌, List, ◌++◌, length, get_or, take, drop, set, zero-add, sym, ap, ◌∙◌, subst, inl, inr, ⊎_elim, arith, length-drop, length-set, get_or-set_other, get_or-set_same}
+use Rattle.std.proofs.Common.{◌≡◌, ℕ, ◌+◌, ◌-◌, ◌<◌, ◌≤◌, List, length, get_or, set, zero-add, sym, refl, ap, ◌∙◌, subst, inl, inr, ⊎_elim, arith, length-set, get_or-set_other, get_or-set_same}
 use Rattle.std.proofs.lemmas.Bool.{cases_eq, cases_lt}
-use Rattle.std.proofs.lemmas.List.{length-append, length-take-le, get_or-take, get_or-drop, get_or_append_left, get_or-append-add}
 use Rattle.std.specs.List.{CopiedTo, SameBelow, SameFrom}
-use borrow.Rule.Slice.PartMut.{put_mid}
-use Rattle.kernel.specs.Arena.{head, size, Clause, Headed, IsArena, Header}
+use Rattle.kernel.specs.Arena.{head, size, Clause, Headed, IsArena, Overwritten, Header}
 use Rattle.kernel.proofs.Arenas.{clause_moved, gap_clear}
 
 -- the arena is as it was outside the gap, has the first k words of src from at on in it, and no header there
@@ -14,44 +12,34 @@ pub record Storing (was arena src : List ℕ) (low high at k : ℕ) : Type 0 whe
   pub put : (j : ℕ) → j < k → get_or arena (low + 1 + j) 0 ≡ get_or src (at + j) 0
   pub clear : (p : ℕ) → low ≤ p → p < high → get_or arena p 0 < head
 
--- what a list has after others were written into it from a on
-module _ (xs ys : List ℕ) (a k : ℕ) (fits : a + length ys ≤ length xs) (long : length ys ≡ k) where
-  front : length (take a xs) ≡ a
-  front = length-take-le a xs (omega arith)
+-- one word after the other is written
+pub overwritten_none : (was src : List ℕ) (a : ℕ) → Overwritten was was src a 0
+overwritten_none was src a = record { put = λ j l. absurd (omega arith); below = λ p l. refl; above = λ p l. refl }
 
-  pub length_put : length (put_mid a k xs ys) ≡ length xs
-  length_put = omega (arith, length-append (take a xs) (ys ++ drop k (drop a xs)), length-append ys (drop k (drop a xs)), length-drop k (drop a xs), length-drop a xs, front)
-
-  put_below : (p : ℕ) → p < a → get_or (put_mid a k xs ys) p 0 ≡ get_or xs p 0
-  put_below p l = get_or_append_left (take a xs) (ys ++ drop k (drop a xs)) 0 p (omega (arith, front)) ∙ get_or-take a xs p 0 l
-
-  pub put_within : (j : ℕ) → j < length ys → get_or (put_mid a k xs ys) (a + j) 0 ≡ get_or ys j 0
-  put_within j l =
-      ap (λ (n : ℕ). get_or (put_mid a k xs ys) (n + j) 0) (sym front) ∙ get_or-append-add (take a xs) (ys ++ drop k (drop a xs)) j 0 ∙ get_or_append_left ys (drop k (drop a xs)) 0 j l
-
-  pub put_above : (p : ℕ) → a + length ys ≤ p → get_or (put_mid a k xs ys) p 0 ≡ get_or xs p 0
-  put_above p l =
-      let past : p ≡ length (take a xs) + (length ys + (p - a - length ys)) = omega (arith, front) in
-      let at : a + (k + (p - a - length ys)) ≡ p = omega arith in
-      ap (λ (n : ℕ). get_or (put_mid a k xs ys) n 0) past ∙ get_or-append-add (take a xs) (ys ++ drop k (drop a xs)) (length ys + (p - a - length ys)) 0
-      ∙ get_or-append-add ys (drop k (drop a xs)) (p - a - length ys) 0 ∙ get_or-drop k (drop a xs) (p - a - length ys) 0 ∙ get_or-drop a xs (k + (p - a - length ys)) 0 ∙ ap (λ (n : ℕ). get_or xs n 0) at
+pub overwritten_more : (was words src : List ℕ) (a k x : ℕ) → a + k < length words → x ≡ get_or src k 0 → Overwritten was words src a k → Overwritten was (set words (a + k) x) src a (k + 1)
+overwritten_more was words src a k x l is so_far = record {
+  put = λ j b. ⊎_elim
+      (λ e. ap (λ (i : ℕ). get_or (set words (a + k) x) (a + i) 0) e ∙ get_or-set_same words (a + k) x 0 l ∙ is ∙ ap (λ (i : ℕ). get_or src i 0) (sym e))
+      (λ ne. get_or-set_other words (a + k) (a + j) x 0 (λ e. omega arith) ∙ so_far.put j (omega arith))
+      (cases_eq j k);
+  below = λ p b. get_or-set_other words (a + k) p x 0 (λ e. omega arith) ∙ so_far.below p b;
+  above = λ p b. get_or-set_other words (a + k) p x 0 (λ e. omega arith) ∙ so_far.above p (omega arith);
+}
 
 -- a clause's literals are written into the gap
-pub storing_put : (ws was src : List ℕ) (m low high k : ℕ) → IsArena ws was m low high → Clause ws src m 0 (length src) → low + 1 + length src ≤ high → length src ≡ k → Storing was (put_mid (low + 1) k was src) src low high 0 (length src)
-storing_put ws was src m low high k ar cl room long =
-    let fits = ar.fits in
+pub storing_put : (ws was arena src : List ℕ) (m low high : ℕ) → IsArena ws was m low high → Clause ws src m 0 (length src) → low + 1 + length src ≤ high → Overwritten was arena src (low + 1) (length src) → Storing was arena src low high 0 (length src)
+storing_put ws was arena src m low high ar cl room over =
     let gap = gap_clear ws was m low high ar in
-    let inside : low + 1 + length src ≤ length was = omega arith in
     record {
-      under = λ p l. put_below was src (low + 1) k inside long p (omega arith);
-      over = λ p l. put_above was src (low + 1) k inside long p (omega arith);
-      put = λ j l. put_within was src (low + 1) k inside long j l ∙ ap (λ (n : ℕ). get_or src n 0) (sym (zero-add j));
+      under = λ p l. over.below p (omega arith);
+      over = λ p l. over.above p (omega arith);
+      put = λ j l. over.put j l ∙ ap (λ (n : ℕ). get_or src n 0) (sym (zero-add j));
       clear = λ p a b. ⊎_elim
-          (λ l. omega (arith, put_below was src (low + 1) k inside long p l, gap p a b))
+          (λ l. omega (arith, over.below p l, gap p a b))
           (λ g. ⊎_elim
           (λ l. let j : ℕ = p - (low + 1) in let at : low + 1 + j ≡ p = omega arith in
-          omega (arith, ap (λ (n : ℕ). get_or (put_mid (low + 1) k was src) n 0) at, put_within was src (low + 1) k inside long j (omega arith), ap (λ (n : ℕ). get_or src n 0) (zero-add j), (cl.words j (omega arith)).low))
-          (λ o. omega (arith, put_above was src (low + 1) k inside long p o, gap p a b))
+          omega (arith, ap (λ (n : ℕ). get_or arena n 0) at, over.put j (omega arith), ap (λ (n : ℕ). get_or src n 0) (zero-add j), (cl.words j (omega arith)).low))
+          (λ o. omega (arith, over.above p o, gap p a b))
           (cases_lt p (low + 1 + length src)))
           (cases_lt p (low + 1));
     }

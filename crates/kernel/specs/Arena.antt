@@ -40,6 +40,12 @@ pub record IsArena (ws arena : List ℕ) (m low high : ℕ) : Type 0 where
   pub fits : high ≤ length arena
   pub headed : (i : ℕ) → i < length arena → head ≤ slice_index arena i → Headed ws arena m low high i
 
+-- the words are those that were, with the first k of src over those from a on
+pub record Overwritten (was words src : List ℕ) (a k : ℕ) : Type 0 where
+  pub put : (j : ℕ) → j < k → slice_index words (a + j) ≡ slice_index src j
+  pub below : (p : ℕ) → p < a → slice_index words p ≡ slice_index was p
+  pub above : (p : ℕ) → a + k ≤ p → slice_index words p ≡ slice_index was p
+
 -- a clause's header stands at c
 pub record Header (arena : List ℕ) (c : ℕ) : Type 0 where
   pub below : c < length arena

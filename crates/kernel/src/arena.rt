@@ -9,9 +9,9 @@
 //
 // The memory is lent, with no heap, and its clauses are those that the C interface gives, each ended
 // by 0: so a clause is words in an array, and its name is a place.
-ghost use Rattle.std.specs.Prelude.{◌≡◌, ℕ, ◌+◌, ◌-◌, ◌<◌, ◌≤◌, false, length, MatchBool, MatchOption, slice_index};
+ghost use Rattle.std.specs.Prelude.{◌≡◌, ℕ, ◌+◌, ◌-◌, ◌<◌, ◌≤◌, false, drop, length, MatchBool, MatchOption, slice_index};
 ghost use Rattle.clauses.specs.Flat.{Well, Within};
-ghost use Rattle.kernel.specs.Arena.{Follows, Header, head, size};
+ghost use Rattle.kernel.specs.Arena.{Follows, Header, IsArena, Overwritten, head, size};
 
 use std::marker::Model;
 
@@ -31,6 +31,41 @@ pub fn clause_length(words: &[u32], c: usize) -> usize
     ensures { result ≡ size words.now c }
 {
     (words[c] - HEADER) as usize
+}
+
+// Writes words over those from a place on. A loop of its own, since a program in C that embeds the
+// solver would have to bring what the library's copy calls.
+fn overwrite(words: &mut [u32], place: usize, new: &[u32])
+    requires room { place + length new.now ≤ length words.old }
+    ensures written { Overwritten words.old words.new new.now place (length new.now) }
+    ensures long { length words.new ≡ length words.old }
+{
+    for (k, word) in new.iter().enumerate() {
+        words[place + k] = *word;
+    }
+}
+
+// Exchanges two literals of the clause at c, the ones at the places p and q, in words that are an
+// arena. The given clauses, their variables and the gap are there for the contract.
+pub fn swap_literals(
+    clauses: &[u32],
+    variables: usize,
+    words: &mut [u32],
+    low: usize,
+    high: usize,
+    c: usize,
+    p: usize,
+    q: usize,
+)
+    requires arena { IsArena clauses.now words.old variables low high }
+    requires header { Header words.old c }
+    requires p { (c < p) × (p ≤ c + size words.old c) }
+    requires q { (c < q) × (q ≤ c + size words.old c) }
+    ensures arena { IsArena clauses.now words.new variables low high }
+    ensures header { slice_index words.new c ≡ slice_index words.old c }
+    ensures long { length words.new ≡ length words.old }
+{
+    words.swap(p, q);
 }
 
 #[derive(Drop)]
@@ -146,6 +181,17 @@ impl Arena<'_> {
         Some(&words[c + 1..end])
     }
 
+    // The words after place c. Which of them are a clause's literals its header says.
+    pub fn words_after(&self, c: usize) -> &[u32]
+        ensures { result.now ≡ drop (c + 1) self.now.words }
+    {
+        let words: &[u32] = self.words;
+        if c >= words.len() {
+            return &[];
+        }
+        &words[c + 1..]
+    }
+
     // Stores a clause that follows at the bottom of the gap, and gives its place. The literals are
     // written first and the header last, so that no header ever stands before words that are no clause.
     pub fn store(&mut self, literals: &[u32]) -> usize
@@ -162,7 +208,7 @@ impl Arena<'_> {
     {
         let place = self.low;
         let n = literals.len();
-        self.words[place + 1..place + 1 + n].copy_from_slice(literals);
+        overwrite(self.words, place + 1, literals);
         self.words[place] = HEADER + n as u32;
         self.low = place + 1 + n;
         place
@@ -180,6 +226,15 @@ impl Arena<'_> {
         ensures variables { self.new.variables ≡ self.old.variables }
         ensures long { length self.new.words ≡ length self.old.words }
     {
-        self.words.swap(p, q);
+        swap_literals(
+            self.clauses,
+            self.variables,
+            self.words,
+            self.low,
+            self.high,
+            c,
+            p,
+            q,
+        );
     }
 }

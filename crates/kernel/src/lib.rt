@@ -11,7 +11,7 @@ mod plain;
 mod scan;
 mod trail;
 
-pub use arena::{Arena, HEADER, clause_length, is_header};
+pub use arena::{Arena, HEADER, clause_length, is_header, swap_literals};
 pub use hints::by_hints;
 pub use look::{Look, examine};
 pub use marks::Marks;

@@ -17,8 +17,8 @@ impl Search<'_> {
         ensures arena { self.new.arena ≡ self.old.arena }
         ensures marks { self.new.marks ≡ self.old.marks }
     {
-        if let Some(literals) = self.arena.clause(c) {
-            self.guide.bump(literals, &self.marks);
+        if self.arena.is_header(c) {
+            self.guide.bump(self.arena.words_after(c), &self.marks);
         }
     }
 

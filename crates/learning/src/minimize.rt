@@ -4,20 +4,25 @@ ghost use Rattle.std.specs.Prelude.{◌≡◌, IfSome};
 ghost use Rattle.kernel.specs.Resolve.{Blamed};
 ghost use Rattle.kernel.specs.Trail.{NoDecision};
 
+use crate::guide::is_literal;
 use crate::search::Search;
 use clauses::Literal;
 
 impl Search<'_> {
     // Whether the clause at c has only marked literals besides x, or ones before the first decision.
     fn is_redundant(&self, c: usize, x: Literal, first: usize) -> bool {
-        let Some(literals) = self.arena.clause(c) else {
+        if !self.arena.is_header(c) {
             return false;
-        };
-        literals.iter().all(|code| {
-            let y = Literal(*code);
-            let v = y.variable();
-            y == x || self.marks.contains(v) || self.guide.phases.stands_before(v, first)
-        })
+        }
+        let words = self.arena.words_after(c);
+        words
+            .iter()
+            .take_while(|word| is_literal(**word))
+            .all(|code| {
+                let y = Literal(*code);
+                let v = y.variable();
+                y == x || self.marks.contains(v) || self.guide.phases.stands_before(v, first)
+            })
     }
 
     // Resolves the marked literals from before place `top` downwards to the first decision with their

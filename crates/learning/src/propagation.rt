@@ -5,7 +5,7 @@
 // of the trail and the clauses alone: the trail grows by implied literals, and a reported conflict
 // means that no model agrees with the values. That nothing was missed is no part of it, since the
 // search looks at every given clause before it says that they are met.
-ghost use Rattle.std.specs.Prelude.{◌≡◌, IfErr};
+ghost use Rattle.std.specs.Prelude.{◌≡◌, length, IfErr};
 ghost use Rattle.kernel.specs.Trail.{Clash, Went};
 
 use crate::search::Search;
@@ -41,7 +41,8 @@ impl Search<'_> {
     // Looks at the clauses in which y stands, which has become false.
     fn visit_occurrences(&mut self, y: Literal) -> Result<(), Conflict>
         ensures went { Went self.old.trail self.new.trail }
-        ensures arena { self.new.arena ≡ self.old.arena }
+        ensures low { self.new.arena.low ≡ self.old.arena.low }
+        ensures long { length self.new.arena.words ≡ length self.old.arena.words }
         ensures marks { self.new.marks ≡ self.old.marks }
         ensures conflict { IfErr result (λ _. Clash self.new.trail.clauses self.new.trail.values) }
     {
@@ -61,7 +62,8 @@ impl Search<'_> {
     // Follows what the literals force that were not propagated yet.
     pub fn propagate(&mut self) -> Result<(), Conflict>
         ensures went { Went self.old.trail self.new.trail }
-        ensures arena { self.new.arena ≡ self.old.arena }
+        ensures low { self.new.arena.low ≡ self.old.arena.low }
+        ensures long { length self.new.arena.words ≡ length self.old.arena.words }
         ensures marks { self.new.marks ≡ self.old.marks }
         ensures conflict { IfErr result (λ _. Clash self.new.trail.clauses self.new.trail.values) }
     {

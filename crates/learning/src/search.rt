@@ -22,7 +22,7 @@ pub struct Search<'a> {
 }
 
 impl<'a> Search<'a> {
-    // A search over clauses in lent memory, with no literal set. The memory is cut into areas: 13 words
+    // A search over clauses in lent memory, with no literal set. The memory is cut into areas: 12 words
     // for each variable and one more, and what is left in three, for the clauses and their occurrence
     // lists.
     pub fn new(formula: &Formula<'a>, work: &'a mut [u32]) -> Search<'a>

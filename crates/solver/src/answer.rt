@@ -2,7 +2,7 @@
 //
 // The variables are numbered inside by those that occur, so the arrays over variables are no longer
 // than the clauses are: each variable that occurs brings 32 words at least, of which the arrays over
-// variables take 13. What is left is for the clauses and their occurrence lists.
+// variables take 12. What is left is for the clauses and their occurrence lists.
 ghost use Rattle.std.specs.Prelude.{◌≡◌, ℕ, ◌+◌, ◌*◌, ◌^◌, ◌<◌, ◌≤◌, length, slice_index};
 ghost use Rattle.std.specs.Int.{from_bool};
 ghost use Rattle.clauses.specs.Says.{SolvedPost};
@@ -17,9 +17,9 @@ use learning::Search;
 // Lists of fewer numbers than this are searched with learned clauses: their places fit 30 bits.
 const MOST_NUMBERS: usize = 0x4000_0000;
 
-// Searches for a model of the clauses with learned clauses, and writes it, as bytes or as words. For
-// callers that know that their clauses are few.
-pub fn find_model<T: From<bool> + Drop>(
+// Searches for a model of the clauses with learned clauses, writes it, as bytes or as words, and counts
+// fallbacks.
+fn find_counted<T: From<bool> + Drop>(
     formula: &Formula,
     model: &mut [T],
     work: &mut [u32],
@@ -48,6 +48,22 @@ pub fn find_model<T: From<bool> + Drop>(
             Answer::Met
         }
     }
+}
+
+// Searches for a model of the clauses with learned clauses, and writes it, as bytes or as words. For
+// callers that know that their clauses are few.
+pub fn find_model<T: From<bool> + Drop>(
+    formula: &Formula,
+    model: &mut [T],
+    work: &mut [u32],
+) -> Answer
+    requires places { formula.now.variables ≤ length model.old }
+    requires short { length formula.now.numbers.now < 2 ^ 30 }
+    requires room { 32 * length formula.now.numbers.now + (8 * length model.old + 4096) ≤ length work.old }
+    ensures { Solves T.from_gives formula.now.numbers.now model.old model.new result }
+{
+    let mut fallbacks = Fallbacks::default();
+    find_counted(formula, model, work, &mut fallbacks)
 }
 
 // Numbers each variable as it is: place v has v + 1, if that is a number.
@@ -99,7 +115,7 @@ fn answer(clauses: &[u32], model: &mut [u8], work: &mut [u32], fallbacks: &mut F
     }
     let formula = Formula::read(clauses, model.len())?;
     if clauses.len() < MOST_NUMBERS {
-        Ok(find_model(&formula, model, work, fallbacks))
+        Ok(find_counted(&formula, model, work, fallbacks))
     } else {
         Ok(solve_plain(&formula, model, work))
     }

@@ -12,7 +12,7 @@ returns-in_err-formula c =
 pub returns-then-clauses-lt-MOST_NUMBERS : goal.returns-then-clauses-lt-MOST_NUMBERS
 returns-then-clauses-lt-MOST_NUMBERS c =
     let f = c.in_ok-formula.formula in
-    solved_read _ _ _ _ c.if-not-enough_room.ensures c.find_model.result _ _ c.in_ok-formula.ensures.0 c.in_ok-formula.ensures.1 f.well f.within c.find_model.auto.model c.find_model.ensures
+    solved_read _ _ _ _ c.if-not-enough_room.ensures c.find_counted.result _ _ c.in_ok-formula.ensures.0 c.in_ok-formula.ensures.1 f.well f.within c.find_counted.auto.model c.find_counted.ensures
 
 pub returns-else-clauses-lt-MOST_NUMBERS : goal.returns-else-clauses-lt-MOST_NUMBERS
 returns-else-clauses-lt-MOST_NUMBERS c =

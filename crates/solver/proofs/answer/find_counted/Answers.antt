@@ -4,7 +4,7 @@ use Rattle.clauses.proofs.Numbered.{renamed_hopeless}
 use Rattle.clauses.proofs.Values.{signs_model}
 use Rattle.kernel.specs.Scan.{Solution}
 use Rattle.solver.proofs.Solutions.{solution_model}
-use Rattle.solver.proofs.answer.find_model.Goals as goal
+use Rattle.solver.proofs.answer.find_counted.Goals as goal
 
 pub returns-in-Never : goal.returns-in-Never
 returns-in-Never g c =
