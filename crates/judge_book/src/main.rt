@@ -16,8 +16,9 @@ const MOST_BYTES: usize = 524_288;
 
 // Reads a file that may be a book.
 fn read_text(rt: &HostRuntime, path: &str) -> anyhow::Result<Vec<u8>> {
-    let mut text = Vec::new(rt.alloc());
     let file = File::open(rt, path)?;
+    // with room for all that is read and a byte more, a text makes the library enlarge nothing
+    let mut text = Vec::with_capacity(rt.alloc(), MOST_BYTES + 2)?;
     file.take(MOST_BYTES as u64 + 1).read_to_end(&mut text)?;
     if text.len() > MOST_BYTES {
         return Err(anyhow!("the text has more than 524,288 bytes"));
@@ -25,9 +26,15 @@ fn read_text(rt: &HostRuntime, path: &str) -> anyhow::Result<Vec<u8>> {
     Ok(text)
 }
 
-// Prints what is known of each rule of a book.
+// Prints what is known of each rule of a book. The rules are counted, so that a proof shows that one comes
+// for each line, and none is passed over.
 fn report(rt: &HostRuntime, rules: Rules<'_>) -> anyhow::Result<()> {
-    for (i, rule) in rules.enumerate() {
+    let all = rules.left;
+    let mut rules = rules;
+    for i in 0..all {
+        let Some(rule) = rules.next() else {
+            unreachable!()
+        };
         let heavy = weight(&rule);
         let verdict = if usable(&rule) {
             "may be used"
