@@ -17,4 +17,5 @@ mod shifting;
 pub use adding::Sum;
 pub use builder::{Builder, HIGH, LOW};
 pub use gates::{Bitwise, Folded};
+pub use operations::inverted;
 pub use shifting::Direction;

@@ -22,6 +22,15 @@ fn invert(x: &[Literal], out: &mut [Literal])
     }
 }
 
+// Each literal of x negated, as a word of its own.
+pub fn inverted<const WIDTH: usize>(x: &[Literal; WIDTH]) -> [Literal; WIDTH]
+    ensures { result ≡ inverted x.now }
+{
+    let mut word = [LOW; WIDTH];
+    invert(x, &mut word);
+    word
+}
+
 // Writes a word whose lowest bit is this one, and the others 0.
 fn write_flag(bit: Literal, out: &mut [Literal])
     ensures { out.new ≡ flag low bit out.old }

@@ -1,4 +1,7 @@
 // The entries of a table of words.
+ghost use Rattle.std.specs.Prelude.{◌≡◌};
+ghost use Rattle.encoding.specs.declared.entry.Entry.TheVariants.{Any};
+
 use words::{BinaryOp, UnaryOp};
 
 // The words of a division: the product is that of the divisor and the quotient.
@@ -24,4 +27,13 @@ pub enum Entry {
     // the three words of a division, one after the other
     Divide(usize, usize),
     Part(usize, DivisionWord),
+}
+
+// What fills room for entries to come. A variant with data can't be the derived default.
+impl Default for Entry {
+    ghost is_default = { λ entry. entry ≡ Any 0 };
+
+    fn default() -> Entry {
+        Entry::Any(0)
+    }
 }
