@@ -76,7 +76,7 @@ split_terms (suc n) (e ∷ es) h =
     let k = r.3 in
     (e ∷ r.0, r.1, r.2, omega arith, ap (λ l. e ∷ l) r.4)
 
-pub rule_read : (s : List ℕ) (p m q n left : ℕ) (v : Width) (x y z : RuleNodes) (roots : List ℕ) → IsHeaderRead s p v n m → IsTermsRead s m (n + 2) 32 x y roots q left → x.width ≡ v → z.width ≡ y.width → z.nodes ≡ y.nodes → places_of z.roots ≡ roots → IsRuleRead s p z q
+pub rule_read : (s : List ℕ) (p m q n left : ℕ) (v : Width) (x y z : RuleNodes) (roots : List ℕ) → IsHeaderRead s p v n m → IsTermsRead s m (n + 2) 32 x y roots q left → x.width ≡ v → z.width ≡ y.width → nodes_of z.nodes ≡ nodes_of y.nodes → places_of z.roots ≡ roots → IsRuleRead s p z q
 rule_read s p m q n left v x y z roots f t xw zw znodes zroots =
     let parts = split_terms n t.terms t.count in
     let r : Rule = record { width = v; needs = parts.0; from = parts.1; to = parts.2 } in

@@ -1,6 +1,7 @@
 -- A list in an array, with one more item.
-use Rattle.std.proofs.Common.{◌≡◌, ℕ, ◌+◌, ◌-◌, ◌<◌, List, length, take, drop, set, replicate, ◌∙◌, sym, ap, arith}
-use Rattle.std.proofs.lemmas.List.{length-set, drop-drop, drop-set-lt, drop-replicate}
+use Rattle.std.proofs.Common.{◌≡◌, ℕ, ◌+◌, ◌<◌, List, length, take, set, ◌∙◌, ap, arith}
+use Rattle.std.proofs.lemmas.List.{length-set}
+use Rattle.terms.proofs.Items.{blanks_more}
 use Rattle.encoding.specs.Lists.{Filled, counted}
 
 -- what is added takes the place of the first blank
@@ -10,10 +11,5 @@ filled_more capacity blank len cells x items room same f =
     record {
       size = length-set cells len x ∙ f.size;
       fits = omega arith;
-      blanks =
-          drop-set-lt (len + 1) cells len x (omega arith)
-          ∙ sym (drop-drop 1 len cells)
-          ∙ ap (drop 1) f.blanks
-          ∙ drop-replicate 1 (capacity - len) blank
-          ∙ ap (λ n. replicate n blank) (omega arith);
+      blanks = blanks_more capacity blank len cells x below f.blanks;
     }

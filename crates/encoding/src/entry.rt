@@ -29,7 +29,7 @@ pub enum Entry {
     Part(usize, DivisionWord),
 }
 
-// What fills room for entries to come. A variant with data can't be the derived default.
+// An entry to fill a list with. A variant with data can't be the derived default.
 impl Default for Entry {
     ghost is_default = { λ entry. entry ≡ Any 0 };
 

@@ -1,5 +1,7 @@
-// Lists of at most so many items, in arrays on the stack.
-ghost use Rattle.std.specs.Prelude.{◌≡◌, ◌≤◌, length};
+// Lists of at most so many items, in arrays on the stack. The places behind the items hold a blank, so that
+// lists of the same items are the same list.
+ghost use Rattle.std.specs.Prelude.{◌≡◌, ◌-◌, ◌≤◌, length, drop, replicate};
+ghost use Rattle.terms.specs.declared.node.Node.TheVariants.{Any};
 
 use super::Node;
 
@@ -10,6 +12,7 @@ pub struct NodeList {
     len: usize,
     ghost fits: { len ≤ 102 },
     ghost size: { length nodes ≡ 102 },
+    ghost blank: { drop len nodes ≡ replicate (102 - len) (Any 0) },
 }
 
 impl NodeList {
@@ -50,6 +53,7 @@ pub struct RootList {
     count: usize,
     ghost fits: { count ≤ 6 },
     ghost size: { length places ≡ 6 },
+    ghost blank: { drop count places ≡ replicate (6 - count) 0 },
 }
 
 impl RootList {

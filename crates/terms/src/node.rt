@@ -15,7 +15,7 @@ pub enum Node {
     Ite(usize, usize, usize),
 }
 
-// What fills room for nodes to come. A variant with data can't be the derived default.
+// A node to fill a list with. A variant with data can't be the derived default.
 impl Default for Node {
     ghost is_default = { λ node. node ≡ Any 0 };
 

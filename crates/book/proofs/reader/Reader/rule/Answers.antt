@@ -31,4 +31,4 @@ returns-clause-read c =
     let set = c.set_roots.ensures in
     let read = rw c.in_ok-header.ensures.text at c.in_ok-roots.ensures.read in
     rule_read s.text.now s.at c.header.new.self.at c.terms.new.self.at h.needed y.left h.width c.new.result y.rule c.set_roots.new.self roots c.in_ok-header.ensures.read read
-    c.new.ensures.width set.width set.nodes (ap places_of set.roots)
+    c.new.ensures.width set.width (ap nodes_of set.nodes) (ap places_of set.roots)
