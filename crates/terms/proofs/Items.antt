@@ -17,7 +17,7 @@ blanks_more capacity blank len cells x room blanks =
     ∙ drop-replicate 1 (capacity - len) blank
     ∙ ap (λ n. replicate n blank) (omega arith)
 
--- so the items tell how many they are, and all the cells
+-- of two lists as long, the items tell all the cells
 cells_same : {X : Type 0} (capacity : ℕ) (blank : X) (n m : ℕ) (xs ys : List X) → n ≡ m → drop n xs ≡ replicate (capacity - n) blank → drop m ys ≡ replicate (capacity - m) blank → take n xs ≡ take m ys → xs ≡ ys
 cells_same capacity blank n m xs ys e f g items =
     sym (take-append-drop n xs)
