@@ -19,15 +19,15 @@ mod tests {
         }
     }
 
-    // The default by the trait's bound, as a list that is filled before it has items asks for it.
-    fn filling<T: Default>() -> T {
+    // By the trait's bound, as a list that is filled before it has items would ask for it.
+    fn default_of<T: Default>() -> T {
         T::default()
     }
 
     #[test]
     fn a_default_is_the_name_any_0(rt: HostRuntime) {
-        assert!(rt; matches!(filling::<Node>(), Node::Any(0)));
-        assert_eq!(rt; filling::<Entry>(), Entry::Any(0));
+        assert!(rt; matches!(default_of::<Node>(), Node::Any(0)));
+        assert_eq!(rt; default_of::<Entry>(), Entry::Any(0));
     }
 
     // The rule that the negation of any 3 is con 1, at 8 bits.
